@@ -1,0 +1,76 @@
+// Slices: the thin loops that every layer above uses, each place read and written once.
+ghost use mathlib.Core.Path.{_≡_};
+ghost use mathlib.Core.List.{_++_};
+ghost use Prim.Native.Nat.{ℕ, _+_, _*_, _<_, _≤_};
+ghost use lib.ListN.{length, take, drop, replicate};
+ghost use lib.IntN.{pos};
+ghost use Rattle.lists.specs.Line.{line, rolled};
+ghost use Rattle.lists.specs.Grid.{lineOf, put};
+
+// The first n places of dst become those of src; later ones stay.
+pub fn copy(src: &[i32], dst: &mut [i32], n: usize)
+    requires { ⌜ (n ≤ length (now src)) × (n ≤ length (now dst)) ⌝ }
+    ensures { λ _. ⌜ now (dst .exit) ≡ take n (now (src .entry)) ++ drop n (now (dst .entry)) ⌝ }
+{
+    let mut k: usize = 0;
+    while k < n {
+        dst[k] = src[k];
+        k += 1;
+    }
+}
+
+// The first n places become 0; later ones stay.
+pub fn clear(work: &mut [i32], n: usize)
+    requires { ⌜ n ≤ length (now work) ⌝ }
+    ensures { λ _. ⌜ now (work .exit) ≡ replicate n (pos 0) ++ drop n (now (work .entry)) ⌝ }
+{
+    let mut k: usize = 0;
+    while k < n {
+        work[k] = 0;
+        k += 1;
+    }
+}
+
+// The line that starts at the place `at` of a picture, its places `along` apart, is read into `samples`.
+pub fn load_line(picture: &[i32], at: usize, along: usize, samples: &mut [i32])
+    requires { ⌜ ((k : ℕ) → k < length (now samples) → at + k * along < length (now picture)) ⌝ }
+    ensures { λ _. ⌜ now (samples .exit) ≡ lineOf at along (length (now (samples .entry))) (now (picture .entry)) ⌝ }
+{
+    let n = samples.len();
+    let mut k: usize = 0;
+    while k < n {
+        samples[k] = picture[at + k * along];
+        k += 1;
+    }
+}
+
+// `samples` are written to the line that starts at the place `at`, its places `along` apart.
+pub fn store_part(picture: &mut [i32], at: usize, along: usize, samples: &[i32])
+    requires { ⌜ ((k : ℕ) → k < length (now samples) → at + k * along < length (now picture)) ⌝ }
+    ensures { λ _. ⌜ now (picture .exit) ≡ put at along (line (now (samples .entry))) (length (now (samples .entry))) (now (picture .entry)) ⌝ }
+{
+    let n = samples.len();
+    let mut k: usize = 0;
+    while k < n {
+        picture[at + k * along] = samples[k];
+        k += 1;
+    }
+}
+
+// The same from sample `turn` on: place k gets sample k + turn, taken modulo the line's length.
+// Two straight runs, the samples from `turn` on and then those before it, so that no index is reduced.
+pub fn store_line(picture: &mut [i32], at: usize, along: usize, samples: &[i32], turn: usize)
+    requires { ⌜ ((k : ℕ) → k < length (now samples) → at + k * along < length (now picture)) ⌝ }
+    requires { ⌜ turn < length (now samples) ⌝ }
+    ensures { λ _. ⌜ now (picture .exit) ≡ put at along (rolled turn (now (samples .entry))) (length (now (samples .entry))) (now (picture .entry)) ⌝ }
+{
+    store_part(picture, at, along, &samples[turn..]);
+    if 0 < turn {
+        store_part(
+            picture,
+            at + (samples.len() - turn) * along,
+            along,
+            &samples[..turn],
+        );
+    }
+}
