@@ -1,0 +1,22 @@
+-- A line's four weights as the code keeps them, and the sum that they weigh. Assumes nothing.
+use Prim.Native.Nat.{_+_, _≤_}
+use lib.IntN.{ℤ, natAbs, _+ℤ_, _*ℤ_}
+use Rattle.kernels.specs.declared.FourWeights.{FourWeights}
+use Rattle.kernels.specs.Kernel.{Kernel, weight}
+
+abbrev pub fourWeights : Kernel → ℤ → FourWeights
+fourWeights κ f = record { w0 = weight κ f 0; w1 = weight κ f 1; w2 = weight κ f 2; w3 = weight κ f 3 }
+
+unfoldable pub weightedSum : FourWeights → ℤ → ℤ → ℤ → ℤ → ℤ
+weightedSum w a b c e = w .w0 *ℤ a +ℤ w .w1 *ℤ b +ℤ w .w2 *ℤ c +ℤ w .w3 *ℤ e
+
+-- the sizes together are at most 6·D³, as every kernel's are
+abbrev pub Modest : FourWeights → Type 0
+Modest w = natAbs (w .w0) + natAbs (w .w1) + natAbs (w .w2) + natAbs (w .w3) ≤ 412316860416
+
+-- what four such weights may weigh: coefficients of samples within ±294,912, or the samples
+pub record Weighable (a b c e : ℤ) : Type 0 where
+  pub first : natAbs a ≤ 14155779
+  pub second : natAbs b ≤ 14155779
+  pub third : natAbs c ≤ 14155779
+  pub fourth : natAbs e ≤ 14155779

@@ -1,0 +1,68 @@
+-- `lines::move_line` meets its contract: refused, nothing is written; accepted, the tests give what moving the line asks. Assumes nothing.
+use mathlib.Core.Path.{_≡_, sym, _∙_}
+use borrow.Author.Needs.{needs}
+use lib.ListN.{length}
+use mir.Facts.{toZ-ofZ}
+use Rattle.refusals.specs.declared.Verdict.the-variants.{Accepted}
+use Rattle.lines.specs.Answer.{judged}
+use Rattle.lines.proofs.Answer.{accepted, line-refused, line-moved}
+use Rattle.lines.proofs.move_line.Statement.{statement}
+use Rattle.lines.proofs.move_line.Tie as tie
+
+-- the verdict, at what was given
+verdict-is : (c : tie.After-judge) → let a = c .before .args in
+    c .judge .result ≡ judged (a .n) (a .kernel) (a .d) (a .line .now) (length (a .result .now)) (length (a .work .now))
+verdict-is c = rw (toZ-ofZ (c .before .fits .d)) at (c .judge .ensures)
+
+accepted-is : (c : tie.After-enum-told) → let a = c .before .before .before .args in
+    judged (a .n) (a .kernel) (a .d) (a .line .now) (length (a .result .now)) (length (a .work .now)) ≡ Accepted
+accepted-is c = sym (verdict-is (c .before .before)) ∙ c .enum-told .given .1
+
+judge-requires : tie.Need-judge-requires
+judge-requires c κs = search needs
+
+enum-known-verdict : tie.Need-enum-known-verdict
+enum-known-verdict c = search needs
+
+enum-told : tie.Need-enum-told
+enum-told c = search needs
+
+move-accepted-requires : tie.Need-move-accepted-requires
+move-accepted-requires c κs =
+    let t = c .before .before in
+    let a = t .before .before .before .args in
+    rw (toZ-ofZ (t .before .before .before .fits .d))
+    (accepted (a .n) (a .kernel) (a .d) (a .line .now) (length (a .result .now)) (length (a .work .now)) (accepted-is t))
+
+returns : tie.Need-returns
+returns c =
+    let v = c .before in
+    let a = v .before .before .before .args in
+    line-refused (a .n) (a .kernel) (a .d) (a .line .now) (a .result .now) (a .work .now) _ _ _ (sym (verdict-is (v .before .before)) ∙ v .verdict .given .1)
+
+same-length : tie.Need-same-length
+same-length c = search needs
+
+same-length-2 : tie.Need-same-length-2
+same-length-2 c = search needs
+
+returns-2 : tie.Need-returns-2
+returns-2 c =
+    let m = c .before .before in
+    let t = m .before .before .before in
+    let a = t .before .before .before .args in
+    let e = rw (toZ-ofZ (t .before .before .before .fits .d)) at (m .move-accepted .ensures) in
+    line-moved (a .n) (a .kernel) (a .d) (a .line .now) (a .result .now) (a .work .now) _ _ _ (accepted-is t) (e .0) (e .1 .0) (e .1 .1)
+
+pub move-line-spec : {M : Type 1} → statement M
+move-line-spec =
+    tie.close
+    (tie.spec
+    judge-requires
+    enum-known-verdict
+    enum-told
+    move-accepted-requires
+    returns
+    same-length
+    same-length-2
+    returns-2)

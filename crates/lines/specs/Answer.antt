@@ -1,0 +1,82 @@
+-- What the call that moves one line answers, accepted or refused, and what it leaves in the lent buffers. Assumes nothing.
+use mathlib.Core.Path.{_≡_}
+use mathlib.Core.Bool.{Bool, _||_}
+use mathlib.Core.List.{List, _++_}
+use Prim.Native.Nat.{ℕ, _*_, _≤_}
+use lib.Dec.{ltb}
+use lib.IntN.{ℤ, pos, natAbs}
+use lib.ListN.{length, take, drop, replicate}
+use Rattle.arith.specs.Move.{fraction}
+use Rattle.refusals.specs.declared.Verdict.{Verdict}
+use Rattle.refusals.specs.declared.Verdict.the-variants as verdict
+use Rattle.refusals.specs.Tests.{badSide, short, badKernel, beyondOf, firstBad, AllWithin}
+use Rattle.refusals.specs.Judging.{refusedIf, ofFound, whenAccepted}
+use Rattle.kernels.specs.Kernel.{kernelOf}
+use Rattle.lines.specs.declared.LineOutcome.{LineOutcome}
+use Rattle.lines.specs.declared.LineOutcome.the-variants.{Moved, Refused}
+use Rattle.lines.specs.Move.{move}
+
+-- the farthest move, in 4,096ths of a sample, and the range of samples
+abbrev pub farthest : ℕ
+farthest = 4194304
+
+abbrev pub range : ℕ
+range = 294912
+
+-- 2: the line or the result under n places, or the work under 2n
+unfoldable pub tooShort : ℕ → ℕ → ℕ → ℕ → Bool
+tooShort n line result work = short line n || (short result n || short work (2 * n))
+
+-- numbers 1, 2, 4, 5 and 6, for a line that is lent and buffers of `result` and `work` places
+unfoldable pub judged : ℕ → ℕ → ℤ → List ℤ → ℕ → ℕ → Verdict
+judged n kernel d line result work =
+    refusedIf (badSide n) 1
+    (refusedIf (tooShort n (length line) result work) 2
+    (refusedIf (beyondOf farthest d) 4
+    (refusedIf (badKernel kernel) 5
+    (ofFound (firstBad range n 1 line)))))
+
+-- what an accepted call has passed
+pub record Movable (n kernel : ℕ) (d : ℤ) (line : List ℤ) (result work : ℕ) : Type 0 where
+  pub some : 1 ≤ n
+  pub few : n ≤ 1024
+  pub line-room : n ≤ length line
+  pub result-room : n ≤ result
+  pub work-room : 2 * n ≤ work
+  pub near : natAbs d ≤ farthest
+  pub known : kernel ≤ 2
+  pub samples : AllWithin range n line
+
+-- a line is interpolated where f is not 0
+unfoldable pub isInterpolated : ℤ → Bool
+isInterpolated d = ltb 0 (fraction d)
+
+abbrev pub outcomeBy : Verdict → Bool → LineOutcome
+outcomeBy verdict.Accepted interpolated = Moved interpolated
+outcomeBy (verdict.Refused number row column) interpolated = Refused number row column
+
+unfoldable pub outcomeOf : ℕ → ℕ → ℤ → List ℤ → ℕ → ℕ → LineOutcome
+outcomeOf n kernel d line result work = outcomeBy (judged n kernel d line result work) (isInterpolated d)
+
+-- the figures of an outcome: a refused call's are 0 but for its number, and the row and the column under 6
+abbrev pub numberOf : LineOutcome → ℕ
+numberOf (Moved interpolated) = 0
+numberOf (Refused number row column) = number
+
+abbrev pub rowOf : LineOutcome → ℕ
+rowOf (Moved interpolated) = 0
+rowOf (Refused number row column) = row
+
+abbrev pub columnOf : LineOutcome → ℕ
+columnOf (Moved interpolated) = 0
+columnOf (Refused number row column) = column
+
+-- the call: its outcome, and what the result and the work hold afterwards, from `result₀` and `work₀`
+pub record LineMoved (n kernel : ℕ) (d : ℤ) (line result₀ work₀ result₁ work₁ : List ℤ) (r : LineOutcome) : Type 0 where
+  pub outcome : r ≡ outcomeOf n kernel d line (length result₀) (length work₀)
+  -- accepted, the first n places hold the moved line
+  pub result :
+      result₁ ≡ whenAccepted (judged n kernel d line (length result₀) (length work₀)) (move (kernelOf kernel) d (take n line) ++ drop n result₀) result₀
+  -- accepted, the first 2n places hold 0
+  pub work :
+      work₁ ≡ whenAccepted (judged n kernel d line (length result₀) (length work₀)) (replicate (2 * n) (pos 0) ++ drop (2 * n) work₀) work₀

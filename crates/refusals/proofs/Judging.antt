@@ -1,0 +1,24 @@
+-- Chains of tests: what an accepted call has passed. Assumes nothing.
+use Prim.Native.Nat.{ℕ}
+use mathlib.Core.Path.{_≡_, refl}
+use mathlib.Core.Bool.{Bool, true, false}
+use native.Mathlib.Omega.{arith}
+use Rattle.refusals.specs.declared.Found.{Found}
+use Rattle.refusals.specs.declared.Found.the-variants.{Nothing, At}
+use Rattle.refusals.specs.declared.Verdict.{Verdict}
+use Rattle.refusals.specs.declared.Verdict.the-variants.{Accepted, Refused}
+use Rattle.refusals.specs.Judging.{refusedIf, ofFound, andThen}
+
+-- an accepted call has passed the test, and the later ones
+pub refusedIf-accepted : (t : Bool) (number : ℕ) (later : Verdict) → refusedIf t number later ≡ Accepted → (t ≡ false) × (later ≡ Accepted)
+refusedIf-accepted true number later e = let z : _≡_ {A = ℕ} 0 1 = cc in absurd (omega arith)
+refusedIf-accepted false number later e = (refl, e)
+
+-- an accepted picture has no sample beyond its range
+pub ofFound-accepted : (f : Found) → ofFound f ≡ Accepted → f ≡ Nothing
+ofFound-accepted Nothing e = refl
+ofFound-accepted (At row column) e = let z : _≡_ {A = ℕ} 0 1 = cc in absurd (omega arith)
+
+pub andThen-accepted : (v later : Verdict) → andThen v later ≡ Accepted → (v ≡ Accepted) × (later ≡ Accepted)
+andThen-accepted Accepted later e = (refl, e)
+andThen-accepted (Refused number row column) later e = let z : _≡_ {A = ℕ} 0 1 = cc in absurd (omega arith)

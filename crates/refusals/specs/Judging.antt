@@ -1,0 +1,41 @@
+-- Verdicts: the order of judging, and what document 01 answers under each. Assumes nothing.
+use Prim.Native.Nat.{ℕ}
+use mathlib.Core.Bool.{Bool, true, false}
+use Rattle.refusals.specs.declared.Found.{Found}
+use Rattle.refusals.specs.declared.Found.the-variants.{Nothing, At}
+use Rattle.refusals.specs.declared.Verdict.{Verdict}
+use Rattle.refusals.specs.declared.Verdict.the-variants.{Accepted, Refused}
+
+-- refused under a number where its test holds; else what the later tests say. A chain of these, the lowest number first, answers the
+-- lowest number that applies
+abbrev pub refusedIf : Bool → ℕ → Verdict → Verdict
+refusedIf true number later = Refused number 0 0
+refusedIf false number later = later
+
+-- number 6 is the only one with a row and a column: those of the sample that was found
+abbrev pub ofFound : Found → Verdict
+ofFound Nothing = Accepted
+ofFound (At row column) = Refused 6 row column
+
+-- a number that is judged after 6: the first verdict stands where it is a refusal
+abbrev pub andThen : Verdict → Verdict → Verdict
+andThen Accepted later = later
+andThen (Refused number row column) later = Refused number row column
+
+-- the number that a call answers, 0 when accepted
+abbrev pub numberOf : Verdict → ℕ
+numberOf Accepted = 0
+numberOf (Refused number row column) = number
+
+abbrev pub rowOf : Verdict → ℕ
+rowOf Accepted = 0
+rowOf (Refused number row column) = row
+
+abbrev pub columnOf : Verdict → ℕ
+columnOf Accepted = 0
+columnOf (Refused number row column) = column
+
+-- a figure or a buffer by the verdict: `new` when accepted; when refused `old`, a buffer as it was or a figure of 0
+abbrev pub whenAccepted : {A : Type 0} → Verdict → A → A → A
+whenAccepted Accepted new old = new
+whenAccepted (Refused number row column) new old = old
