@@ -1,0 +1,13 @@
+-- Laws of the exact picture.
+--     ExactLine   a line moved exactly: there is one, and one only
+--     Step        one line, rounded against exact: 1/2 + ε, 1/2 + 5/4·ε, 3/4 + 3·ε
+--     Whole       exact for one grey, and for whole samples
+--     Passes      three passes: 3/2, 2, 10
+--     Straighten  the same of lists
+--     Demand      demand 3 of the straightened picture
+pub mod ExactLine
+pub mod Step
+pub mod Whole
+pub mod Passes
+pub mod Straighten
+pub mod Demand

@@ -1,0 +1,11 @@
+-- Laws of the three passes.
+--     Places     places of a picture and of its flat list
+--     Rows       a row of pass 1 depends on that row and the setting only
+--     Stages     the passes one after the other, as lists
+--     Count      the count is at most 2(H-1) + (W-1)
+--     Examples   small pictures, computed
+pub mod Places
+pub mod Rows
+pub mod Stages
+pub mod Count
+pub mod Examples

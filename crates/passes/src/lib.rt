@@ -1,0 +1,1 @@
+// A picture's three passes: definitions and laws, no code.

@@ -1,0 +1,2 @@
+-- The rules carry every starred row.
+pub mod Starred

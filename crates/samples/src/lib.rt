@@ -1,0 +1,1 @@
+// Document 01's starred samples: definitions and one computed test, no code.
