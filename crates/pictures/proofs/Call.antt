@@ -1,0 +1,105 @@
+-- What makes up the answer of the three-pass call, refused and accepted. Assumes nothing.
+use Prim.Native.Nat.{ℕ, _+_, _*_, _≤_, _<_, max}
+use mathlib.Core.Path.{_≡_, refl, sym, ap, _∙_, subst}
+use mathlib.Core.List.{List, _++_}
+use native.Mathlib.Omega.{arith}
+use lib.IntN.{ℤ, pos}
+use lib.ListN.{length, take, drop, replicate}
+use lib.Seq.{getD-take, length-take-le, take-at}
+use Rattle.refusals.specs.declared.Verdict.the-variants.{Accepted, Refused}
+use Rattle.settings.specs.declared.Setting.{Setting}
+use Rattle.kernels.specs.Kernel.{Kernel}
+use Rattle.passes.specs.Picture.{picture, straighten, Places, rows-moved}
+use Rattle.passes.specs.Count.{count}
+use Rattle.passes.proofs.Places.{inside, pictured-same}
+use Rattle.passes.proofs.Rows.{moved-row-alone}
+use Rattle.passes.proofs.Stages.{rows-pass, columns-pass, rows-pass-length, straighten-stages}
+use Rattle.exact.specs.Limits.{Demand3}
+use Rattle.exact.proofs.Demand.{straighten-demand3}
+use Rattle.pictures.specs.Judge.{Fit}
+use Rattle.pictures.specs.Answer.{kernelIn, rowMoves, columnMoves, verdictOf, Answer}
+use Rattle.pictures.specs.declared.Outcome.the-variants as variants
+use Rattle.pictures.proofs.Accepted.{accepted-fit}
+
+-- ---- the places of the picture after its first W·H are not read
+module _ (κ : Kernel) (W H : ℕ) (rows columns : ℕ → ℤ) (s : List ℤ) (hW : 0 < W) (hH : 0 < H) where
+  places-same : Places W H (λ y x. picture W (take (W * H) s) y x ≡ picture W s y x)
+  unfolding picture
+  places-same y x hy hx = getD-take (W * H) s (y * W + x) (pos 0) (inside W H y x hy hx)
+
+  first-same : rows-pass κ W H rows (take (W * H) s) ≡ rows-pass κ W H rows s
+  unfolding rows-pass
+  first-same =
+      pictured-same (rows-moved κ W rows (picture W (take (W * H) s))) (rows-moved κ W rows (picture W s)) hW
+      (λ y x hy hx. moved-row-alone κ W rows (picture W (take (W * H) s)) (picture W s) y hW (λ k l. places-same y k hy l) x)
+
+  pub straighten-takes : straighten κ W H rows columns (take (W * H) s) ≡ straighten κ W H rows columns s
+  straighten-takes =
+      straighten-stages κ rows columns (take (W * H) s) hW hH
+      ∙ ap (λ (t : List ℤ). rows-pass κ W H rows (columns-pass κ W H columns t)) first-same
+      ∙ sym (straighten-stages κ rows columns s hW hH)
+
+  pub straighten-length : length (straighten κ W H rows columns s) ≡ W * H
+  straighten-length = ap length (straighten-stages κ rows columns s hW hH) ∙ rows-pass-length κ W H rows _
+
+-- ---- the picture's copy, and the part of work that is lent, are fit too
+pub copy-fit : {W H : ℕ} {s : Setting} {picture : List ℤ} {result work : ℕ} (copy : List ℤ) (room : ℕ) → Fit W H s picture result work
+    → copy ≡ take (W * H) picture → 4 * max W H ≤ room → Fit W H s copy (length copy) room
+copy-fit {W} {H} {s} {picture} copy room f e big =
+    record {
+      width = f .width;
+      height = f .height;
+      picture-places = omega (arith, long);
+      result-places = omega (arith, long);
+      work-places = big;
+      centre = f .centre;
+      shears = f .shears;
+      kernel = f .kernel;
+      samples = λ i l. rw (e, getD-take (W * H) picture i (pos 0) l) (f .samples i l);
+    }
+  where
+    long : length copy ≡ W * H
+    long = ap length e ∙ length-take-le (W * H) picture (f .picture-places)
+
+-- ---- the answer
+module _ (W H : ℕ) (s : Setting) (picture result work : List ℤ) where
+  pub refused-answer : (number row column : ℕ) → verdictOf W H s picture result work ≡ Refused number row column
+      → Answer W H s picture result work (variants.Refused number row column) result work
+  refused-answer number row column e =
+      record {
+        outcome = rw e refl;
+        written = rw e refl;
+        cleared = rw e refl;
+        demand3 = λ a. let z : _≡_ {A = ℕ} 0 1 = cc in absurd (omega arith);
+      }
+
+  pub accepted-answer : (lines : ℕ) (result′ work′ : List ℤ) → verdictOf W H s picture result work ≡ Accepted
+      → lines ≡ count W H (rowMoves s) (columnMoves s)
+      → result′ ≡ straighten (kernelIn s) W H (rowMoves s) (columnMoves s) (take (W * H) picture) ++ drop (W * H) result
+      → work′ ≡ replicate (4 * max W H) (pos 0) ++ drop (4 * max W H) work
+      → Answer W H s picture result work (variants.Straightened lines) result′ work′
+  accepted-answer lines result′ work′ e counted done zero =
+      record {
+        outcome = rw (e, counted) refl;
+        written = rw e done;
+        cleared = rw e zero;
+        demand3 = λ a. subst (Demand3 κ W H rows columns picture) (sym first) (straighten-demand3 κ W H rows columns picture (f .width .0) (f .height .0) (f .samples));
+      }
+    where
+      f : Fit W H s picture (length result) (length work)
+      f = accepted-fit W H s picture (length result) (length work) e
+
+      κ : Kernel
+      κ = kernelIn s
+
+      rows : ℕ → ℤ
+      rows = rowMoves s
+
+      columns : ℕ → ℤ
+      columns = columnMoves s
+
+      first : take (W * H) result′ ≡ straighten κ W H rows columns picture
+      first =
+          ap (take (W * H)) done
+          ∙ take-at (straighten κ W H rows columns (take (W * H) picture)) (drop (W * H) result) (W * H) (straighten-length κ W H rows columns (take (W * H) picture) (f .width .0) (f .height .0))
+          ∙ straighten-takes κ W H rows columns picture (f .width .0) (f .height .0)

@@ -1,0 +1,67 @@
+-- What the three-pass call answers, and what it leaves in the result and in work. Assumes nothing.
+use Prim.Native.Nat.{ℕ, _*_, max}
+use mathlib.Core.Path.{_≡_}
+use mathlib.Core.List.{List, _++_}
+use lib.IntN.{ℤ, pos}
+use lib.ListN.{length, take, drop, replicate}
+use Rattle.refusals.specs.declared.Verdict.{Verdict}
+use Rattle.refusals.specs.declared.Verdict.the-variants.{Accepted, Refused}
+use Rattle.refusals.specs.Judging.{whenAccepted}
+use Rattle.settings.specs.declared.Setting.{Setting}
+use Rattle.kernels.specs.Kernel.{Kernel, kernelOf}
+use Rattle.passes.specs.Picture.{shear, straighten}
+use Rattle.passes.specs.Count.{count}
+use Rattle.exact.specs.Limits.{Demand3}
+use Rattle.pictures.specs.declared.Outcome.{Outcome}
+use Rattle.pictures.specs.declared.Outcome.the-variants as variants
+use Rattle.pictures.specs.Judge.{judged}
+
+-- document 01's number, row, column and count of each outcome
+abbrev pub numberOf : Outcome → ℕ
+numberOf (variants.Straightened lines) = 0
+numberOf (variants.Refused number row column) = number
+
+abbrev pub rowOf : Outcome → ℕ
+rowOf (variants.Straightened lines) = 0
+rowOf (variants.Refused number row column) = row
+
+abbrev pub columnOf : Outcome → ℕ
+columnOf (variants.Straightened lines) = 0
+columnOf (variants.Refused number row column) = column
+
+abbrev pub countOf : Outcome → ℕ
+countOf (variants.Straightened lines) = lines
+countOf (variants.Refused number row column) = 0
+
+-- the outcome of a verdict, with the lines interpolated when accepted
+abbrev pub outcomeOf : Verdict → ℕ → Outcome
+outcomeOf Accepted lines = variants.Straightened lines
+outcomeOf (Refused number row column) lines = variants.Refused number row column
+
+-- a setting's kernel, and how far it moves each row and each column
+abbrev pub kernelIn : Setting → Kernel
+kernelIn s = kernelOf (s .kernel)
+
+abbrev pub rowMoves : Setting → ℕ → ℤ
+rowMoves s = shear (s .a) (s .cy)
+
+abbrev pub columnMoves : Setting → ℕ → ℤ
+columnMoves s = shear (s .b) (s .cx)
+
+-- what the tests say of a call
+abbrev pub verdictOf : ℕ → ℕ → Setting → List ℤ → List ℤ → List ℤ → Verdict
+verdictOf W H s picture result work = judged W H s picture (length result) (length work)
+
+-- The full answer of a call that lends `picture`, `result` and `work` as they are at entry: r is its outcome, and result′ and work′ are the
+-- buffers at exit. Refused, it says its number, row and column, and both buffers stay as they were. Accepted, it counts the lines
+-- interpolated; the first W·H places of the result hold the three passes of the picture; the first 4·max(W, H) places of work hold 0; and the
+-- result keeps demand 3, worked out from the picture and the setting as they were handed in.
+pub record Answer (W H : ℕ) (s : Setting) (picture result work : List ℤ) (r : Outcome) (result′ work′ : List ℤ) : Type 0 where
+  pub outcome : r ≡ outcomeOf (verdictOf W H s picture result work) (count W H (rowMoves s) (columnMoves s))
+  pub written : result′
+      ≡ whenAccepted (verdictOf W H s picture result work)
+      (straighten (kernelIn s) W H (rowMoves s) (columnMoves s) (take (W * H) picture) ++ drop (W * H) result)
+      result
+  pub cleared : work′ ≡ whenAccepted (verdictOf W H s picture result work) (replicate (4 * max W H) (pos 0) ++ drop (4 * max W H) work) work
+  pub demand3 : verdictOf W H s picture result work ≡ Accepted
+      → Demand3 (kernelIn s) W H (rowMoves s) (columnMoves s) picture (take (W * H) result′)
