@@ -1,0 +1,73 @@
+-- Samples at the borders, and verdicts in the order of the numbers, worked out by the checker. Assumes nothing.
+use mathlib.Core.Path.{_≡_, refl}
+use mathlib.Core.List.{List, [], _∷_, map}
+use lib.IntN.{ℤ, pos, negsuc}
+use lib.Ieee.{binary32, round, toBits, ofBits}
+use Rattle.arith.specs.Whole.{floor, minℤ, maxℤ}
+use Rattle.refusals.specs.declared.Verdict.the-variants.{Accepted, Refused}
+use Rattle.refusals.specs.Tests.{badSide, badSize, short, beyondOf, firstFrom, firstBad}
+use Rattle.readings.specs.declared.Reading.the-variants.{Level, Under, Over}
+use Rattle.readings.specs.Sample.{greyOf, floatOf, readingOf}
+use Rattle.readings.specs.Answers.{judged, outside, judgedPoint}
+
+-- greys of -65, -64, 63, 64, 32,640 and 32,704: 64 units are the first of grey 1, and a grey is held to 0 to 255
+greys-at-the-borders :
+    map greyOf (negsuc 64 ∷ negsuc 63 ∷ pos 63 ∷ pos 64 ∷ pos 32640 ∷ pos 32704 ∷ []) ≡ 0 ∷ 0 ∷ 0 ∷ 1 ∷ 255 ∷ 255 ∷ []
+unfolding greyOf floor minℤ maxℤ
+greys-at-the-borders = refl
+
+-- the bits of 1/128 and of -8,192
+bits-of-one-unit : toBits binary32 (floatOf (pos 1)) ≡ 0x3C00_0000
+unfolding floatOf round toBits
+bits-of-one-unit = refl
+
+bits-of-the-lowest : toBits binary32 (floatOf (negsuc 1048575)) ≡ 0xC600_0000
+unfolding floatOf round toBits
+bits-of-the-lowest = refl
+
+-- 32,640 is Level 255, 32,641 is Over by 1/128, -1 is Under by 1/128, and 0 is Level 0
+level-at-white : readingOf (pos 32640) ≡ Level (ofBits binary32 0x437F_0000)
+unfolding readingOf floatOf round ofBits
+level-at-white = refl
+
+over-past-white : readingOf (pos 32641) ≡ Over (ofBits binary32 0x3C00_0000)
+unfolding readingOf floatOf round ofBits
+over-past-white = refl
+
+under-past-black : readingOf (negsuc 0) ≡ Under (ofBits binary32 0x3C00_0000)
+unfolding readingOf floatOf round ofBits
+under-past-black = refl
+
+level-at-black : readingOf (pos 0) ≡ Level (ofBits binary32 0)
+unfolding readingOf floatOf round ofBits
+level-at-black = refl
+
+-- a picture 2 wide and 2 high: the first bad sample in row order is named, whatever comes after it
+two-bad : List ℤ
+two-bad = pos 0 ∷ pos 1048576 ∷ negsuc 1048576 ∷ pos 1048577 ∷ []
+
+first-bad-sample : judged 2 2 4 two-bad ≡ Refused 6 1 0
+unfolding two-bad judged badSize badSide short firstBad firstFrom beyondOf
+first-bad-sample = refl
+
+-- the range itself is accepted
+the-range : judged 1 2 2 two-bad ≡ Accepted
+unfolding two-bad judged badSize badSide short firstBad firstFrom beyondOf
+the-range = refl
+
+-- a bad size is told before a short buffer, that before a bad sample, and that before a point outside
+lowest-number : judged 1025 1 0 two-bad ≡ Refused 1 0 0
+unfolding two-bad judged badSize badSide short firstBad firstFrom beyondOf
+lowest-number = refl
+
+short-before-bad : judged 2 2 3 two-bad ≡ Refused 2 0 0
+unfolding two-bad judged badSize badSide short firstBad firstFrom beyondOf
+short-before-bad = refl
+
+bad-before-outside : judgedPoint 2 2 2 0 two-bad ≡ Refused 6 1 0
+unfolding two-bad judgedPoint outside judged badSize badSide short firstBad firstFrom beyondOf
+bad-before-outside = refl
+
+point-outside : judgedPoint 1 2 0 2 two-bad ≡ Refused 7 0 0
+unfolding two-bad judgedPoint outside judged badSize badSide short firstBad firstFrom beyondOf
+point-outside = refl

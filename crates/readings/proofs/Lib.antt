@@ -1,0 +1,13 @@
+-- Laws of the readings.
+--     Exact      v/128 as a float: conversion and product round nothing
+--     Cases      the three cases of a reading, and that their greys are exact
+--     Ends       the smallest is not above any sample and is one of them; the largest likewise
+--     Passed     what an accepted call has passed
+--     Calls      each call's contract, from its verdict and what was written or read
+--     Examples   samples and verdicts worked out by the checker
+pub mod Exact
+pub mod Cases
+pub mod Ends
+pub mod Passed
+pub mod Calls
+pub mod Examples

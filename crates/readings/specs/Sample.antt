@@ -1,0 +1,45 @@
+-- The forms that one sample is given in. A sample is in units of 1/128 grey. Assumes nothing.
+use Prim.Native.Nat.{ℕ}
+use mathlib.Core.Bool.{not, cond}
+use lib.Dec.{T}
+use lib.IntN.{ℤ, pos, natAbs, _+ℤ_, _-ℤ_}
+use lib.Signed.{ltZ, nonNeg}
+use lib.Ieee as Ieee
+use lib.Ieee.{Float, binary32}
+use lib.Ieee.Exact.{HasValue}
+use Rattle.arith.specs.Whole.{floor, minℤ, maxℤ}
+use Rattle.readings.specs.declared.Reading.{Reading}
+use Rattle.readings.specs.declared.Reading.the-variants.{Level, Under, Over}
+
+-- a grey of a byte: (v + 64)/128 rounded down, held to 0 to 255
+unfoldable pub greyOf : ℤ → ℕ
+greyOf v = natAbs (maxℤ (pos 0) (minℤ (pos 255) (floor (v +ℤ pos 64) 128)))
+
+-- v/128 as a 32-bit float: the one nearest to |v|/128, with the sign of v
+unfoldable pub floatOf : ℤ → Float
+floatOf v = Ieee.round binary32 (not (nonNeg v)) (natAbs v) 128
+
+-- x is v/128 with nothing rounded: it has that sign and that value, and it is written in the one way in which a 32-bit float holds a value
+pub record Exactly (x : Float) (v : ℤ) : Type 0 where
+  pub value : HasValue x (not (nonNeg v)) (natAbs v) 128
+  pub held : T (Ieee.fits binary32 x)
+
+-- the samples that read as Level go from the first to the second; no other definition names them
+abbrev pub levelFrom : ℤ
+levelFrom = pos 0
+
+abbrev pub levelTo : ℤ
+levelTo = pos 32640
+
+-- a reading: Under by the greys that are missing, Over by those that are too many, otherwise Level
+unfoldable pub readingOf : ℤ → Reading
+readingOf v =
+    cond (ltZ v levelFrom) (Under (floatOf (levelFrom -ℤ v)))
+    (cond (ltZ levelTo v) (Over (floatOf (v -ℤ levelTo)))
+    (Level (floatOf v)))
+
+-- the greys that each case of a reading of v carries, with nothing rounded
+abbrev pub ReadsExactly : Reading → ℤ → Type 0
+ReadsExactly (Level x) v = Exactly x v
+ReadsExactly (Under x) v = Exactly x (levelFrom -ℤ v)
+ReadsExactly (Over x) v = Exactly x (v -ℤ levelTo)
