@@ -1,0 +1,218 @@
+// One line of the line program: read, judged and answered.
+ghost use mathlib.Core.Path.{_≡_};
+ghost use mathlib.Core.Bool.{true};
+ghost use Prim.Native.Nat.{ℕ, _+_, _*_, _<_, _≤_};
+ghost use lib.IntN.{pos};
+ghost use lib.ListN.{length};
+ghost use Rattle.lists.specs.Tab.{tab};
+ghost use Rattle.digits.specs.Digit.{isDigit, allDigits, digitValue, placesOf};
+ghost use Rattle.hexlines.specs.Line.{fieldAt, widthIn, heightIn, wellFormed, sampleAt};
+ghost use Rattle.hexlines.specs.Answer.{refusalText, acceptedText, judgedText, numberOf, answerOf, askedOf};
+ghost use Rattle.hexlines.specs.Room.{Fitted, Front, pieceAt, headPlaces, samplePlaces, closed};
+use pictures::Outcome;
+use settings::Setting;
+
+// The field of four digits at a place.
+fn field(line: &[u8], at: usize) -> usize
+    requires { ⌜ (at < 100) × (at + 4 ≤ length (now line)) × (allDigits (now line) ≡ true) ⌝ }
+    ensures { λ r. ⌜ (r ≡ fieldAt (now (line .entry)) at) × (r < 65536) ⌝ }
+{
+    let e = at + 4;
+    digits::hex_value(&line[at..e]) as usize
+}
+
+// Whether number 9 does not apply.
+fn well_formed(line: &[u8]) -> bool
+    ensures { λ r. ⌜ r ≡ wellFormed (now (line .entry)) ⌝ }
+{
+    if line.len() < 22 {
+        return false;
+    }
+    if !digits::all_digits(line) {
+        return false;
+    }
+    let n = field(line, 6) * field(line, 10);
+    if 4096 < n {
+        return false;
+    }
+    line.len() == 22 + 2 * n
+}
+
+// The setting to ask the straightener for. A refused step becomes a shear out of range, so that 4 is judged after 1 and 3 and before 5.
+fn asked(line: &[u8]) -> Setting
+    requires { ⌜ (22 ≤ length (now line)) × (allDigits (now line) ≡ true) ⌝ }
+    ensures { λ r. ⌜ r ≡ askedOf (now (line .entry)) ⌝ }
+{
+    let kernel = digits::hex_value(&line[..2]);
+    let t = digits::signed_value(field(line, 2) as u32);
+    let cx = field(line, 14);
+    let cy = field(line, 18);
+    let change = steps::with_step(
+        Setting {
+            kernel,
+            cx,
+            cy,
+            a: 0,
+            b: 0,
+        },
+        t,
+    );
+    if change.number == 0 {
+        return change.setting;
+    }
+    Setting {
+        kernel,
+        cx,
+        cy,
+        a: 4097,
+        b: 0,
+    }
+}
+
+// The sample of a grey of two digits.
+fn grey_sample(high: u8, low: u8) -> i32
+    requires { ⌜ (isDigit high ≡ true) × (isDigit low ≡ true) ⌝ }
+    ensures { λ r. ⌜ r ≡ pos ((digitValue high * 16 + digitValue low) * 128) ⌝ }
+{
+    ((digits::digit_value(high) * 16 + digits::digit_value(low)) * 128) as i32
+}
+
+// The samples of a line's greys, as many as picture has places.
+fn read_greys(line: &[u8], picture: &mut [i32])
+    requires { ⌜ (22 + 2 * length (now picture) ≤ length (now line)) × (allDigits (now line) ≡ true) ⌝ }
+    ensures { λ _. ⌜ now (picture .exit) ≡ tab (sampleAt (now (line .entry))) (length (now (picture .entry))) ⌝ }
+{
+    let mut k: usize = 0;
+    while k < picture.len() {
+        picture[k] = grey_sample(line[22 + 2 * k], line[23 + 2 * k]);
+        k += 1;
+    }
+}
+
+// The lowest n places of v at a place of out.
+fn put_at(out: &mut [u8], at: usize, n: usize, v: u64)
+    requires { ⌜ (n < 100) × (at + n ≤ length (now out)) ⌝ }
+    ensures { λ _. ⌜ now (out .exit) ≡ pieceAt at (placesOf n v) (now (out .entry)) ⌝ }
+{
+    let e = at + n;
+    digits::put_places(&mut out[at..e], v);
+}
+
+// The ten places that every answer begins with.
+fn put_head(out: &mut [u8], a: u64, b: u64, c: u64)
+    requires { ⌜ 10 ≤ length (now out) ⌝ }
+    ensures { λ _. ⌜ Front (headPlaces a b c) (now (out .entry)) (now (out .exit)) ⌝ }
+{
+    put_at(out, 0, 2, a);
+    put_at(out, 2, 4, b);
+    put_at(out, 6, 4, c);
+}
+
+// Fills out with the eight places of each sample.
+fn put_samples(out: &mut [u8], samples: &[i32])
+    requires { ⌜ (length (now samples) ≤ 4096) × (length (now out) ≡ 8 * length (now samples)) ⌝ }
+    ensures { λ _. ⌜ now (out .exit) ≡ samplePlaces (now (samples .entry)) ⌝ }
+{
+    let mut k: usize = 0;
+    while k < samples.len() {
+        put_at(out, k * 8, 8, digits::word_of(samples[k]));
+        k += 1;
+    }
+}
+
+// Spells the first end places and puts a line feed behind them; hands back how many bytes that makes.
+fn close(out: &mut [u8], end: usize) -> usize
+    requires { ⌜ end < length (now out) ⌝ }
+    ensures { λ r. ⌜ (r ≡ end + 1) × (now (out .exit) ≡ closed end (now (out .entry))) ⌝ }
+{
+    digits::spell(&mut out[..end]);
+    out[end] = 10;
+    end + 1
+}
+
+// Writes a refusal, where it fits.
+fn refuse(out: &mut [u8], number: u32, row: usize, column: usize) -> usize
+    ensures { λ r. ⌜ Fitted (refusalText number row column) (now (out .entry)) (now (out .exit)) r ⌝ }
+{
+    if out.len() < 11 {
+        return 0;
+    }
+    put_head(out, number as u64, row as u64, column as u64);
+    close(out, 10)
+}
+
+// Writes the answer to an accepted line, where it fits.
+fn accept(out: &mut [u8], count: u32, w: usize, h: usize, samples: &[i32]) -> usize
+    requires { ⌜ length (now samples) ≤ 4096 ⌝ }
+    ensures { λ r. ⌜ Fitted (acceptedText count w h (now (samples .entry))) (now (out .entry)) (now (out .exit)) r ⌝ }
+{
+    let end = 14 + 8 * samples.len();
+    if out.len() <= end {
+        return 0;
+    }
+    put_head(out, 0, count as u64, w as u64);
+    put_at(out, 10, 4, h as u64);
+    put_samples(&mut out[14..end], samples);
+    close(out, end)
+}
+
+// Answers a well-formed line of w times h greys, in lent places: as many for the picture and for its result, and 4,096 for work.
+fn respond_in(
+    line: &[u8],
+    out: &mut [u8],
+    w: usize,
+    h: usize,
+    picture: &mut [i32],
+    result: &mut [i32],
+    work: &mut [i32],
+) -> usize
+    requires { ⌜ wellFormed (now line) ≡ true ⌝ }
+    requires { ⌜ (w ≡ widthIn (now line)) × (h ≡ heightIn (now line)) ⌝ }
+    requires { ⌜ (length (now picture) ≡ w * h) × (length (now result) ≡ w * h) × (length (now work) ≡ 4096) ⌝ }
+    ensures { λ r. ⌜ Fitted (judgedText (numberOf (now (line .entry))) (now (line .entry))) (now (out .entry)) (now (out .exit)) r ⌝ }
+{
+    let setting = asked(line);
+    read_greys(line, picture);
+    let outcome = pictures::straighten(w, h, setting, picture, result, work);
+    match outcome {
+        Outcome::Straightened(count) => accept(out, count, w, h, result),
+        Outcome::Refused(number, row, column) => refuse(out, number, row, column),
+    }
+}
+
+// Answers a well-formed line in lent places, 4,096 of each kind.
+fn respond(
+    line: &[u8],
+    out: &mut [u8],
+    picture: &mut [i32],
+    result: &mut [i32],
+    work: &mut [i32],
+) -> usize
+    requires { ⌜ wellFormed (now line) ≡ true ⌝ }
+    requires { ⌜ (length (now picture) ≡ 4096) × (length (now result) ≡ 4096) × (length (now work) ≡ 4096) ⌝ }
+    ensures { λ r. ⌜ Fitted (judgedText (numberOf (now (line .entry))) (now (line .entry))) (now (out .entry)) (now (out .exit)) r ⌝ }
+{
+    let w = field(line, 6);
+    let h = field(line, 10);
+    let n = w * h;
+    respond_in(line, out, w, h, &mut picture[..n], &mut result[..n], work)
+}
+
+// Answers any line, which comes without its line feed: the answer is written to the front of out, with its line feed, and its length
+// handed back; where out is too short for it, nothing is written and 0 handed back. The longest answer has 32,783 bytes.
+// The three arrays are room for the work, and their contents before and afterwards do not matter.
+pub fn answer(
+    line: &[u8],
+    out: &mut [u8],
+    picture: &mut [i32; 4096],
+    result: &mut [i32; 4096],
+    work: &mut [i32; 4096],
+) -> usize
+    ensures { λ r. ⌜ Fitted (answerOf (now (line .entry))) (now (out .entry)) (now (out .exit)) r ⌝ }
+{
+    if well_formed(line) {
+        respond(line, out, picture, result, work)
+    } else {
+        refuse(out, 9, 0, 0)
+    }
+}

@@ -1,0 +1,71 @@
+-- A line that is cut to 8,215 bytes is answered as the whole line is, however often it is cut on the way. Assumes nothing.
+use Prim.Native.Nat.{ℕ, _+_, _-_, _≤_, _<_, min}
+use mathlib.Core.Bool.{Bool, true, false}
+use mathlib.Core.List.{List, [], _∷_, _++_}
+use mathlib.Core.Path.{_≡_, refl, sym, ap, _∙_}
+use native.Mathlib.Omega.{arith}
+use borrow.Author.Tests.{leb-true, leb-false}
+use lib.Dec.{leb}
+use lib.ListN.{length, take, length-take}
+use lib.Seq.{take-all, take-take, length-take-le, take-append-le, take-append-add, paste, take-paste}
+use Rattle.hexlines.proofs.Judged.{long-ill, answer-ill}
+use Rattle.hexlines.specs.Answer.{answerOf}
+use Rattle.stream.specs.Steps.{cut, Held}
+
+by-length : {P : Type 0} (n m : ℕ) → (n ≤ m → P) → (m < n → P) → P
+by-length {P} n m f g = go (leb n m) refl
+  where
+    go : (t : Bool) → leb n m ≡ t → P
+    go true e = f (leb-true n m e)
+    go false e = g (leb-false n m e)
+
+pub answer-cut : (l : List ℕ) → answerOf (cut l) ≡ answerOf l
+unfolding cut
+answer-cut l =
+    by-length (length l) 8215
+    (λ (h : length l ≤ 8215). rw (take-all 8215 l h) refl)
+    (λ (h : 8215 < length l).
+    sym (answer-ill (take 8215 l) (long-ill (take 8215 l) (simp length-take (omega arith)))) ∙ answer-ill l (long-ill l (omega arith)))
+
+-- a cut line with more behind it, cut again
+cut-append : (l s : List ℕ) → cut (cut l ++ s) ≡ cut (l ++ s)
+unfolding cut
+cut-append l s =
+    by-length (length l) 8215
+    (λ (h : length l ≤ 8215). rw (take-all 8215 l h) refl)
+    (λ (h : 8215 < length l).
+    let k : length (take 8215 l) ≡ 8215 = length-take-le 8215 l (omega arith) in
+    take-append-le 8215 (take 8215 l) s (omega arith) ∙ take-take 8215 8215 l (omega arith) ∙ sym (take-append-le 8215 l s (omega arith)))
+
+pub held-append : (kept held s : List ℕ) → Held kept held → cut (kept ++ s) ≡ cut (held ++ s)
+held-append kept held s e = rw e (cut-append held s)
+
+-- used bytes that stand, and as many of s behind them as there is room for
+take-min : (s : List ℕ) (n m : ℕ) → n ≡ min (length s) m → take n s ≡ take m s
+take-min s n m e =
+    by-length (length s) m
+    (λ (h : length s ≤ m). take-all n s (omega arith) ∙ sym (take-all m s h))
+    (λ (h : m < length s). let q : n ≡ m = omega arith in rw q refl)
+
+pub cut-held : (carry s : List ℕ) (used n : ℕ) → used ≤ 8215 → length carry ≡ 8215 → n ≡ min (length s) (8215 - used)
+    → take (used + n) (paste carry used s n) ≡ cut (take used carry ++ s)
+unfolding cut
+cut-held carry s used n h l e =
+    let k : length (take used carry) ≡ used = length-take-le used carry (omega arith) in
+    let all : 8215 ≡ length (take used carry) + (8215 - used) = omega arith in
+    take-paste carry used s n (omega arith) (omega arith)
+    ∙ ap (λ (x : List ℕ). take used carry ++ x) (take-min s n (8215 - used) e)
+    ∙ sym (ap (λ (m : ℕ). take m (take used carry ++ s)) all ∙ take-append-add (take used carry) s (8215 - used))
+
+-- nothing is held of a line only where nothing came
+pub held-nothing : (held : List ℕ) → Held [] held → held ≡ []
+unfolding cut
+held-nothing [] e = refl
+held-nothing (b ∷ bs) e = absurd (omega (arith, ap length e, length-take 8215 (b ∷ bs)))
+
+-- no more than 8,215 bytes are held
+pub used-least : (carry : List ℕ) (used n : ℕ) → length carry ≡ 8215 → n ≡ min used 8215 → take n carry ≡ take used carry
+used-least carry used n l e =
+    by-length used 8215
+    (λ (h : used ≤ 8215). let q : n ≡ used = omega arith in rw q refl)
+    (λ (h : 8215 < used). take-all n carry (omega arith) ∙ sym (take-all used carry (omega arith)))
