@@ -1,0 +1,30 @@
+-- `exports::straightener_move_line` keeps what `lines::move_line` promises. Assumes nothing.
+use borrow.Author.Needs.{needs}
+use mir.Facts.{toZ-ofZ}
+use Rattle.exports.proofs.straightener_move_line.Statement.{statement}
+use Rattle.exports.proofs.straightener_move_line.Tie as tie
+
+move-line-requires : tie.Need-move-line-requires
+move-line-requires c κs = search needs
+
+of-line-requires : tie.Need-of-line-requires
+of-line-requires c κs = search needs
+
+same-length : tie.Need-same-length
+same-length c = search needs
+
+same-length-2 : tie.Need-same-length-2
+same-length-2 c = search needs
+
+returns : tie.Need-returns
+returns c =
+    let m = c .before .before .before in
+    record {
+      outcome = m .move-line .result;
+      promised = rw (toZ-ofZ (m .before .before .before .fits .d)) at (m .move-line .ensures);
+      answer = c .of-line .ensures;
+    }
+
+pub straightener-move-line-spec : {M : Type 1} → statement M
+straightener-move-line-spec =
+    tie.close (tie.spec move-line-requires of-line-requires same-length same-length-2 returns)

@@ -1,0 +1,85 @@
+-- The structs that C and Rust receive: what the call beneath answers, laid out by the definitions that give document 01's figures for each
+-- case. Assumes nothing.
+use Prim.Native.Nat.{ℕ}
+use mathlib.Core.Path.{_≡_}
+use mathlib.Core.Bool.{cond}
+use lib.Ieee.{Float}
+use Rattle.refusals.specs.declared.Verdict.{Verdict}
+use Rattle.refusals.specs.Judging as verdict
+use Rattle.pictures.specs.declared.Outcome.{Outcome}
+use Rattle.pictures.specs.Answer as straightened
+use Rattle.lines.specs.declared.LineOutcome.{LineOutcome}
+use Rattle.lines.specs.declared.LineOutcome.the-variants.{Moved, Refused}
+use Rattle.lines.specs.Answer as moved
+use Rattle.steps.specs.declared.StepSine.{StepSine}
+use Rattle.steps.specs.declared.Levelled.{Levelled}
+use Rattle.steps.specs.Step.{sineNumber, sineValue}
+use Rattle.steps.specs.Level.{levelNumber, levelStep}
+use Rattle.readings.specs.declared.Reading.{Reading}
+use Rattle.readings.specs.declared.Reading.the-variants.{Level, Under, Over}
+use Rattle.readings.specs.declared.ReadingAnswer as reading
+use Rattle.readings.specs.declared.SummaryAnswer as summary
+use Rattle.exports.specs.declared.Answer.{Answer}
+use Rattle.exports.specs.declared.Step.{Step}
+use Rattle.exports.specs.declared.ReadingAnswer.{ReadingAnswer}
+use Rattle.exports.specs.declared.SummaryAnswer.{SummaryAnswer}
+
+-- a verdict alone interpolates no line
+abbrev pub ofVerdict : Verdict → Answer
+ofVerdict v = record { number = verdict.numberOf v; row = verdict.rowOf v; column = verdict.columnOf v; count = 0 }
+
+abbrev pub ofOutcome : Outcome → Answer
+ofOutcome o = record { number = straightened.numberOf o; row = straightened.rowOf o; column = straightened.columnOf o; count = straightened.countOf o }
+
+-- a line counts 1 where it was interpolated
+abbrev pub lineCount : LineOutcome → ℕ
+lineCount (Moved interpolated) = cond interpolated 1 0
+lineCount (Refused number row column) = 0
+
+abbrev pub ofLine : LineOutcome → Answer
+ofLine o = record { number = moved.numberOf o; row = moved.rowOf o; column = moved.columnOf o; count = lineCount o }
+
+abbrev pub ofSine : StepSine → Step
+ofSine s = record { number = sineNumber s; value = sineValue s }
+
+abbrev pub ofLevelled : Levelled → Step
+ofLevelled l = record { number = levelNumber l; value = levelStep l }
+
+-- 0 Level, 1 Under, 2 Over, each with its greys
+abbrev pub kindOf : Reading → ℕ
+kindOf (Level greys) = 0
+kindOf (Under greys) = 1
+kindOf (Over greys) = 2
+
+abbrev pub greysOf : Reading → Float
+greysOf (Level greys) = greys
+greysOf (Under greys) = greys
+greysOf (Over greys) = greys
+
+abbrev pub ofReading : reading.ReadingAnswer → ReadingAnswer
+ofReading a =
+    let v = a .verdict in
+    record {
+      number = verdict.numberOf v;
+      row = verdict.rowOf v;
+      column = verdict.columnOf v;
+      kind = kindOf (a .reading);
+      greys = greysOf (a .reading);
+    }
+
+abbrev pub ofSummary : summary.SummaryAnswer → SummaryAnswer
+ofSummary a =
+    let v = a .verdict in
+    record {
+      number = verdict.numberOf v;
+      row = verdict.rowOf v;
+      column = verdict.columnOf v;
+      darkest = a .summary .darkest;
+      lightest = a .summary .lightest;
+    }
+
+-- r is laid out from an outcome of which the call beneath says all that it promises
+pub record Exported {O R : Type 0} (flattened : O → R) (Promised : O → Type 0) (r : R) : Type 0 where
+  pub outcome : O
+  pub promised : Promised outcome
+  pub answer : r ≡ flattened outcome

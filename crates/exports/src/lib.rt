@@ -1,0 +1,299 @@
+// The public calls as C and Rust link them. A slice is a pointer and a length, a struct goes by value, and what the call beneath answers as
+// an enum is laid out flat. include/straightener.h says what each argument means, in which unit, and what each number says.
+ghost use mathlib.Core.Path.{_≡_};
+ghost use Rattle.pictures.specs.Answer.{Answer as PictureStraightened};
+ghost use Rattle.lines.specs.Answer.{LineMoved};
+ghost use Rattle.steps.specs.Step.{SineAnswer, changeOf};
+ghost use Rattle.steps.specs.Level.{LevelAnswer};
+ghost use Rattle.readings.specs.Sample.{greyOf};
+ghost use Rattle.readings.specs.Answers.{Out, FloatsOut, ReadingAt, SummaryOf};
+ghost use Rattle.hexlines.specs.Answer.{answerOf};
+ghost use Rattle.hexlines.specs.Room.{Fitted};
+ghost use Rattle.exports.specs.Exported.{Exported, ofVerdict, ofOutcome, ofLine, ofSine, ofLevelled, kindOf, greysOf, ofReading, ofSummary};
+use lines::LineOutcome;
+use pictures::Outcome;
+use readings::Reading;
+use refusals::Verdict;
+use settings::Setting;
+use steps::Change;
+use steps::Levelled;
+use steps::StepSine;
+
+// What most calls answer: 0 or the refusal number, the row and the column under 6, and the number of lines interpolated.
+#[repr(C)]
+pub struct Answer {
+    pub number: u32,
+    pub row: usize,
+    pub column: usize,
+    pub count: u32,
+}
+
+// 0 and a step or a shear, or the refusal number and 0.
+#[repr(C)]
+pub struct Step {
+    pub number: u32,
+    pub value: i32,
+}
+
+// A reading: `kind` is 0 Level, 1 Under, 2 Over.
+#[repr(C)]
+pub struct ReadingAnswer {
+    pub number: u32,
+    pub row: usize,
+    pub column: usize,
+    pub kind: u32,
+    pub greys: f32,
+}
+
+// The darkest and the lightest grey.
+#[repr(C)]
+pub struct SummaryAnswer {
+    pub number: u32,
+    pub row: usize,
+    pub column: usize,
+    pub darkest: f32,
+    pub lightest: f32,
+}
+
+// ---- answers laid out flat
+
+fn accepted(count: u32) -> Answer
+    ensures { λ r. ⌜ r ≡ record { number = 0; row = 0; column = 0; count = count } ⌝ }
+{
+    Answer {
+        number: 0,
+        row: 0,
+        column: 0,
+        count,
+    }
+}
+
+fn refused(number: u32, row: usize, column: usize) -> Answer
+    ensures { λ r. ⌜ r ≡ record { number = number; row = row; column = column; count = 0 } ⌝ }
+{
+    Answer {
+        number,
+        row,
+        column,
+        count: 0,
+    }
+}
+
+fn of_verdict(verdict: Verdict) -> Answer
+    ensures { λ r. ⌜ r ≡ ofVerdict verdict ⌝ }
+{
+    match verdict {
+        Verdict::Accepted => accepted(0),
+        Verdict::Refused(number, row, column) => refused(number, row, column),
+    }
+}
+
+fn of_outcome(outcome: Outcome) -> Answer
+    ensures { λ r. ⌜ r ≡ ofOutcome outcome ⌝ }
+{
+    match outcome {
+        Outcome::Straightened(count) => accepted(count),
+        Outcome::Refused(number, row, column) => refused(number, row, column),
+    }
+}
+
+fn of_line(outcome: LineOutcome) -> Answer
+    ensures { λ r. ⌜ r ≡ ofLine outcome ⌝ }
+{
+    match outcome {
+        LineOutcome::Moved(interpolated) => accepted(interpolated as u32),
+        LineOutcome::Refused(number, row, column) => refused(number, row, column),
+    }
+}
+
+fn of_sine(sine: StepSine) -> Step
+    ensures { λ r. ⌜ r ≡ ofSine sine ⌝ }
+{
+    match sine {
+        StepSine::Value(value) => Step { number: 0, value },
+        StepSine::Refused(number) => Step { number, value: 0 },
+    }
+}
+
+fn of_levelled(levelled: Levelled) -> Step
+    ensures { λ r. ⌜ r ≡ ofLevelled levelled ⌝ }
+{
+    match levelled {
+        Levelled::Step(value) => Step { number: 0, value },
+        Levelled::Refused(number) => Step { number, value: 0 },
+    }
+}
+
+fn kind_of(reading: Reading) -> u32
+    ensures { λ r. ⌜ r ≡ kindOf reading ⌝ }
+{
+    match reading {
+        Reading::Level(_) => 0,
+        Reading::Under(_) => 1,
+        Reading::Over(_) => 2,
+    }
+}
+
+fn greys_of(reading: Reading) -> f32
+    ensures { λ r. ⌜ r ≡ greysOf reading ⌝ }
+{
+    match reading {
+        Reading::Level(greys) => greys,
+        Reading::Under(greys) => greys,
+        Reading::Over(greys) => greys,
+    }
+}
+
+fn of_reading(answer: readings::ReadingAnswer) -> ReadingAnswer
+    ensures { λ r. ⌜ r ≡ ofReading answer ⌝ }
+{
+    let verdict = answer.verdict;
+    let judged = of_verdict(verdict);
+    let reading = answer.reading;
+    ReadingAnswer {
+        number: judged.number,
+        row: judged.row,
+        column: judged.column,
+        kind: kind_of(reading),
+        greys: greys_of(reading),
+    }
+}
+
+fn of_summary(answer: readings::SummaryAnswer) -> SummaryAnswer
+    ensures { λ r. ⌜ r ≡ ofSummary answer ⌝ }
+{
+    let verdict = answer.verdict;
+    let judged = of_verdict(verdict);
+    let summary = answer.summary;
+    SummaryAnswer {
+        number: judged.number,
+        row: judged.row,
+        column: judged.column,
+        darkest: summary.darkest,
+        lightest: summary.lightest,
+    }
+}
+
+// ---- the calls
+
+// Straightens a picture.
+#[no_mangle]
+pub extern "C" fn straightener_straighten(
+    width: usize,
+    height: usize,
+    setting: Setting,
+    picture: &[i32],
+    result: &mut [i32],
+    work: &mut [i32],
+) -> Answer
+    ensures { λ r. ⌜ Exported ofOutcome (λ o. PictureStraightened width height setting (now (picture .entry)) (now (result .entry)) (now (work .entry)) o (now (result .exit)) (now (work .exit))) r ⌝ }
+{
+    of_outcome(pictures::straighten(width, height, setting, picture, result, work))
+}
+
+// Moves one line.
+#[no_mangle]
+pub extern "C" fn straightener_move_line(
+    n: usize,
+    kernel: u32,
+    d: i32,
+    line: &[i32],
+    result: &mut [i32],
+    work: &mut [i32],
+) -> Answer
+    ensures { λ r. ⌜ Exported ofLine (LineMoved n kernel d (now (line .entry)) (now (result .entry)) (now (work .entry)) (now (result .exit)) (now (work .exit))) r ⌝ }
+{
+    of_line(lines::move_line(n, kernel, d, line, result, work))
+}
+
+// The setting with the shears of step t.
+#[no_mangle]
+pub extern "C" fn straightener_with_step(setting: Setting, t: i32) -> Change
+    ensures { λ r. ⌜ r ≡ changeOf setting t ⌝ }
+{
+    steps::with_step(setting, t)
+}
+
+// S(t).
+#[no_mangle]
+pub extern "C" fn straightener_sine(t: i32) -> Step
+    ensures { λ r. ⌜ Exported ofSine (SineAnswer t) r ⌝ }
+{
+    of_sine(steps::sine(t))
+}
+
+// The step that levels the line through two points.
+#[no_mangle]
+pub extern "C" fn straightener_level(x1: i32, y1: i32, x2: i32, y2: i32) -> Step
+    ensures { λ r. ⌜ Exported ofLevelled (LevelAnswer x1 y1 x2 y2) r ⌝ }
+{
+    of_levelled(steps::level(x1, y1, x2, y2))
+}
+
+// Greys out.
+#[no_mangle]
+pub extern "C" fn straightener_greys_out(
+    width: usize,
+    height: usize,
+    picture: &[i32],
+    greys: &mut [u8],
+) -> Answer
+    ensures { λ r. ⌜ Exported ofVerdict (Out greyOf width height (now (picture .entry)) (now (greys .entry)) (now (greys .exit))) r ⌝ }
+{
+    of_verdict(readings::greys_out(width, height, picture, greys))
+}
+
+// Floats out.
+#[no_mangle]
+pub extern "C" fn straightener_floats_out(
+    width: usize,
+    height: usize,
+    picture: &[i32],
+    floats: &mut [f32],
+) -> Answer
+    ensures { λ r. ⌜ Exported ofVerdict (FloatsOut width height (now (picture .entry)) (now (floats .entry)) (now (floats .exit))) r ⌝ }
+{
+    of_verdict(readings::floats_out(width, height, picture, floats))
+}
+
+// The reading at a point.
+#[no_mangle]
+pub extern "C" fn straightener_reading(
+    width: usize,
+    height: usize,
+    column: usize,
+    row: usize,
+    picture: &[i32],
+) -> ReadingAnswer
+    ensures { λ r. ⌜ Exported ofReading (ReadingAt width height column row (now (picture .entry))) r ⌝ }
+{
+    of_reading(readings::reading_at(width, height, column, row, picture))
+}
+
+// The darkest and the lightest grey.
+#[no_mangle]
+pub extern "C" fn straightener_summary(
+    width: usize,
+    height: usize,
+    picture: &[i32],
+) -> SummaryAnswer
+    ensures { λ r. ⌜ Exported ofSummary (SummaryOf width height (now (picture .entry))) r ⌝ }
+{
+    of_summary(readings::summary_of(width, height, picture))
+}
+
+// Room for the samples of one line.
+fn places() -> [i32; 4096] {
+    [0; 4096]
+}
+
+// The answer to one line of the line program, which comes without its line feed.
+#[no_mangle]
+pub extern "C" fn straightener_answer_line(line: &[u8], answer: &mut [u8]) -> usize
+    ensures { λ r. ⌜ Fitted (answerOf (now (line .entry))) (now (answer .entry)) (now (answer .exit)) r ⌝ }
+{
+    let mut picture = places();
+    let mut result = places();
+    let mut work = places();
+    hexlines::answer(line, answer, &mut picture, &mut result, &mut work)
+}

@@ -1,0 +1,249 @@
+/*
+ * straightener.h - pictures of analyser screens straightened by three shears in whole numbers.
+ *
+ * The functions are in the static library libexports.a (rt staticlib exports), which needs nothing
+ * but the C library. Each one is proved to answer what is said here for every input.
+ *
+ * Straightening     straightener_straighten, straightener_move_line
+ * Settings, steps   straightener_with_step, straightener_sine, straightener_level
+ * Readings          straightener_greys_out, straightener_floats_out, straightener_reading,
+ *                   straightener_summary
+ * Line format       straightener_answer_line
+ *
+ * Pictures. A sample is a signed whole number, 128 units to one grey: 0 is black, 32,640 is grey 255.
+ * A picture is width times height samples, row by row; columns count to the right and rows downward,
+ * both from 0. Width and height are 1 to 1,024.
+ *
+ * Buffers. A buffer is a pointer and, after it, its length in places (not in bytes). It may be longer
+ * than the call needs: later places are neither read nor written. The buffers of one call may not
+ * overlap. A pointer may be NULL where its length is 0. No function keeps a pointer or any state, so
+ * calls on different buffers may run at the same time.
+ *
+ * Refusals. Every answer carries a number; 0 says that the call was accepted. Of several numbers that
+ * apply the lowest is answered (straightener_reading: 6 before 7). A refused call leaves every buffer
+ * untouched, and every other figure of its answer is 0 unless it is said otherwise below.
+ *
+ *   1  width, height or line length is 0 or over 1,024
+ *   2  a buffer is too short
+ *   3  the centre lies outside the picture
+ *   4  a shear, step or move is beyond its range
+ *   5  the kernel is none of 0, 1, 2
+ *   6  a sample is beyond the call's range; row and column name the first one in row order
+ *   7  a point lies outside the picture (levelling: a coordinate is not from 0 to 1,023)
+ *   8  the two points of a graticule line do not run to the right, or are steeper than 45 degrees
+ *   9  a line of the line format is not well-formed
+ */
+#ifndef STRAIGHTENER_H
+#define STRAIGHTENER_H
+
+#include <stddef.h>
+#include <stdint.h>
+
+#ifdef __cplusplus
+extern "C" {
+#endif
+
+/* The refusal numbers. */
+enum {
+    STRAIGHTENER_ACCEPTED = 0,
+    STRAIGHTENER_SIZE = 1,
+    STRAIGHTENER_BUFFER = 2,
+    STRAIGHTENER_CENTRE = 3,
+    STRAIGHTENER_SHEAR = 4,
+    STRAIGHTENER_KERNEL = 5,
+    STRAIGHTENER_SAMPLE = 6,
+    STRAIGHTENER_POINT = 7,
+    STRAIGHTENER_SLOPE = 8,
+    STRAIGHTENER_LINE = 9
+};
+
+/* The kernels: triangle, Keys' cubic convolution with a = -1/2, cubic spline. */
+enum { STRAIGHTENER_LINEAR = 0, STRAIGHTENER_KEYS = 1, STRAIGHTENER_SPLINE = 2 };
+
+/* The cases of a reading. */
+enum { STRAIGHTENER_LEVEL = 0, STRAIGHTENER_UNDER = 1, STRAIGHTENER_OVER = 2 };
+
+/* The answer to a line of the line format never takes more bytes than this. */
+#define STRAIGHTENER_LONGEST_ANSWER 32783
+
+/*
+ * How a picture is straightened. Nothing is tested until the setting is used.
+ *   kernel  0, 1 or 2
+ *   cx, cy  column and row of the centre, which stays where it is; cx below the width, cy below the height
+ *   a, b    shears of the rows and of the columns, in 4,096ths, each from -4,096 to 4,096
+ */
+typedef struct {
+    uint32_t kernel;
+    size_t cx;
+    size_t cy;
+    int32_t a;
+    int32_t b;
+} straightener_setting;
+
+/*
+ * What most calls answer.
+ *   number       0, or the refusal number
+ *   row, column  under number 6 the place of the first sample beyond the range, else 0
+ *   count        the number of lines interpolated, those that did not move by whole samples
+ */
+typedef struct {
+    uint32_t number;
+    size_t row;
+    size_t column;
+    uint32_t count;
+} straightener_answer;
+
+/* A changed setting under number 0, or the setting as it was under number 4. */
+typedef struct {
+    uint32_t number;
+    straightener_setting setting;
+} straightener_change;
+
+/* A step or a shear under number 0, or 0 under a refusal number. */
+typedef struct {
+    uint32_t number;
+    int32_t value;
+} straightener_step;
+
+/*
+ * A reading at a point.
+ *   number, row, column  as in straightener_answer
+ *   kind                 0 Level, 1 Under, 2 Over
+ *   greys                Level: the sample in greys; Under: how many greys it lies below 0;
+ *                        Over: how many greys it lies above 255. Exact
+ */
+typedef struct {
+    uint32_t number;
+    size_t row;
+    size_t column;
+    uint32_t kind;
+    float greys;
+} straightener_reading_answer;
+
+/*
+ * The darkest and the lightest sample of a picture, in greys, exact and held to no range;
+ * number, row and column as in straightener_answer.
+ */
+typedef struct {
+    uint32_t number;
+    size_t row;
+    size_t column;
+    float darkest;
+    float lightest;
+} straightener_summary_answer;
+
+/*
+ * Straightens a picture: rows moved by a * (y - cy), columns by b * (x - cx), rows again, each in
+ * 4,096ths of a sample, with wrapped edges.
+ *   width, height  1 to 1,024
+ *   setting        see above
+ *   picture        at least width * height places; samples within +-32,767
+ *   result         at least width * height places; the first of them receive the straightened picture,
+ *                  whose samples may lie beyond +-32,767 but never beyond the +-1,048,576 of the readings
+ *   work           at least 4 * max(width, height) places, of which the first are 0 afterwards
+ * Refuses under 1, 2, 3, 4, 5, 6. The count is at most 2 * (height - 1) + (width - 1).
+ * No sample of the result lies further from the same three passes in exact fractions than 3/2 units
+ * (kernel 0), 2 units (kernel 1) or 10 units (kernel 2) of 1/128 grey.
+ */
+straightener_answer straightener_straighten(size_t width, size_t height, straightener_setting setting,
+                                            const int32_t *picture, size_t picture_len,
+                                            int32_t *result, size_t result_len,
+                                            int32_t *work, size_t work_len);
+
+/*
+ * Moves one line, with wrapped ends.
+ *   n       samples of the line, 1 to 1,024
+ *   kernel  0, 1 or 2
+ *   d       the move in 4,096ths of a sample, toward higher places if positive; within +-4,194,304
+ *   line    at least n places; samples within +-294,912
+ *   result  at least n places; the first of them receive the moved line
+ *   work    at least 2 * n places, of which the first are 0 afterwards
+ * Refuses under 1, 2, 4, 5, 6 (row 0). The count is 1 if the line was interpolated, 0 if it moved by
+ * whole samples.
+ */
+straightener_answer straightener_move_line(size_t n, uint32_t kernel, int32_t d,
+                                           const int32_t *line, size_t line_len,
+                                           int32_t *result, size_t result_len,
+                                           int32_t *work, size_t work_len);
+
+/*
+ * The setting with the shears of step t, a = -t and b = S(t), and the rest kept.
+ *   t  4,096 times the tangent of half the angle, from -1,697 to 1,697; a positive step levels a
+ *      graticule line that rises to the right
+ * Refuses under 4, and hands the setting back as it was.
+ */
+straightener_change straightener_with_step(straightener_setting setting, int32_t t);
+
+/*
+ * S(t): the whole number nearest 2 * 4096^2 * t / (4096^2 + t^2), in 4,096ths.
+ *   t  from -1,697 to 1,697
+ * Refuses under 4.
+ */
+straightener_step straightener_sine(int32_t t);
+
+/*
+ * The step that levels the graticule line through two points on it.
+ *   x1, y1  column and row of the left point, each from 0 to 1,023
+ *   x2, y2  column and row of the right point, each from 0 to 1,023
+ * Refuses under 7, and under 8 where x2 - x1 is below 1 or |y2 - y1| is above it.
+ */
+straightener_step straightener_level(int32_t x1, int32_t y1, int32_t x2, int32_t y2);
+
+/*
+ * Turns samples into greys: (v + 64)/128 rounded down, held to 0 to 255.
+ *   width, height  1 to 1,024
+ *   picture        at least width * height places; samples within +-1,048,576
+ *   greys          at least width * height places, of which the first receive the greys
+ * Refuses under 1, 2, 6. The count is 0.
+ */
+straightener_answer straightener_greys_out(size_t width, size_t height,
+                                           const int32_t *picture, size_t picture_len,
+                                           uint8_t *greys, size_t greys_len);
+
+/*
+ * Turns samples into greys as floats: v/128, exact, held to no range.
+ *   width, height  1 to 1,024
+ *   picture        at least width * height places; samples within +-1,048,576
+ *   floats         at least width * height places, of which the first receive the floats
+ * Refuses under 1, 2, 6. The count is 0.
+ */
+straightener_answer straightener_floats_out(size_t width, size_t height,
+                                            const int32_t *picture, size_t picture_len,
+                                            float *floats, size_t floats_len);
+
+/*
+ * Reads one sample of a picture: Under below 0, Over above 32,640, else Level.
+ *   width, height  1 to 1,024
+ *   column, row    the point; column below the width, row below the height
+ *   picture        at least width * height places; samples within +-1,048,576
+ * Refuses under 1, 2, 6, 7. A refused reading is Level 0.
+ */
+straightener_reading_answer straightener_reading(size_t width, size_t height, size_t column, size_t row,
+                                                 const int32_t *picture, size_t picture_len);
+
+/*
+ * The darkest and the lightest grey of a picture.
+ *   width, height  1 to 1,024
+ *   picture        at least width * height places; samples within +-1,048,576
+ * Refuses under 1, 2, 6.
+ */
+straightener_summary_answer straightener_summary(size_t width, size_t height,
+                                                 const int32_t *picture, size_t picture_len);
+
+/*
+ * Answers one line of the line format, as the line program does.
+ *   line    the line without its line feed: upper-case hexadecimal, kernel 2 digits, step 4 (two's
+ *           complement), width, height, cx, cy 4 each, then 2 digits for each grey; at most 4,096 greys
+ *   answer  receives the answer with its line feed: 00, count 4 digits, width 4, height 4 and 8 digits
+ *           a sample (two's complement), or the refusal number 2, row 4 and column 4 digits
+ * Returns the number of bytes written, or 0, with nothing written, if the answer is longer than
+ * answer_len; STRAIGHTENER_LONGEST_ANSWER places always suffice.
+ * The numbers that a line can be refused under are 1, 3, 4, 5 and 9.
+ */
+size_t straightener_answer_line(const uint8_t *line, size_t line_len, uint8_t *answer, size_t answer_len);
+
+#ifdef __cplusplus
+}
+#endif
+
+#endif

@@ -1,0 +1,101 @@
+//! Pictures in and out: PGM files, the line format, and straightening a picture in one go.
+//!
+//! Every command reads standard input and writes standard output; run it without a command for the list.
+
+mod file;
+mod hexline;
+mod png;
+mod screen;
+
+use file::Picture;
+use std::env;
+use std::error::Error;
+use std::io::{self, Read, Write};
+use std::process::ExitCode;
+use straightener::{greys_out, level, straightened, Kernel, Setting};
+
+/// What the tool can do.
+const USAGE: &str = "\
+pgm screen STEP                a test picture: an analyser screen of 64 by 64, tilted so that STEP levels it
+pgm level X1 Y1 X2 Y2          the step that levels a graticule line through two points, columns and rows
+pgm straighten KERNEL STEP     straightens a PGM picture of up to 1,024 by 1,024 about its middle
+pgm line KERNEL STEP           writes a PGM picture of up to 4,096 samples as a line for the line program
+pgm picture                    writes the line program's answer as a PGM picture
+pgm png                        writes a PGM picture as PNG
+
+KERNEL is linear, keys or spline; STEP is 4,096 times the tangent of half the angle, -1697 to 1697.
+Pictures and lines come in on standard input and go out on standard output.
+";
+
+/// Any failure, with a message for the person at the keyboard.
+type Outcome<T> = Result<T, Box<dyn Error>>;
+
+fn main() -> ExitCode {
+    let words: Vec<String> = env::args().skip(1).collect();
+    match run(&words).and_then(|output| Ok(io::stdout().write_all(&output)?)) {
+        Ok(()) => ExitCode::SUCCESS,
+        Err(error) => {
+            eprintln!("pgm: {error}");
+            ExitCode::FAILURE
+        }
+    }
+}
+
+/// What a command writes.
+fn run(words: &[String]) -> Outcome<Vec<u8>> {
+    let words: Vec<&str> = words.iter().map(String::as_str).collect();
+    match words[..] {
+        ["screen", step] => Ok(screen::tilted(whole(step)?).to_pgm()),
+        ["level", x1, y1, x2, y2] => {
+            Ok(format!("{}\n", level(whole(x1)?, whole(y1)?, whole(x2)?, whole(y2)?)?).into_bytes())
+        }
+        ["straighten", kernel, step] => straighten(&pgm_input()?, named(kernel)?, whole(step)?),
+        ["line", kernel, step] => hexline::from_picture(&pgm_input()?, named(kernel)?, whole(step)?),
+        ["picture"] => Ok(hexline::to_picture(&input()?)?.to_pgm()),
+        ["png"] => Ok(png::encoded(&pgm_input()?)),
+        _ => Err(format!("which command?\n\n{USAGE}").into()),
+    }
+}
+
+/// Everything on standard input.
+fn input() -> Outcome<Vec<u8>> {
+    let mut bytes = Vec::new();
+    io::stdin().read_to_end(&mut bytes)?;
+    Ok(bytes)
+}
+
+/// The picture on standard input.
+fn pgm_input() -> Outcome<Picture> {
+    Picture::from_pgm(&input()?)
+}
+
+/// A whole number of the command line.
+fn whole(word: &str) -> Outcome<i32> {
+    word.parse().map_err(|_| format!("{word} is not a whole number").into())
+}
+
+/// A kernel by its name.
+fn named(word: &str) -> Outcome<Kernel> {
+    match word {
+        "linear" => Ok(Kernel::Linear),
+        "keys" => Ok(Kernel::Keys),
+        "spline" => Ok(Kernel::Spline),
+        _ => Err(format!("there is no kernel {word}; take linear, keys or spline").into()),
+    }
+}
+
+/// The samples of a picture in greys.
+fn picture_of(width: usize, height: usize, samples: &[i32]) -> Outcome<Picture> {
+    let mut greys = vec![0; width * height];
+    greys_out(width, height, samples, &mut greys)?;
+    Ok(Picture { width, height, greys })
+}
+
+/// Straightens a picture about its middle.
+fn straighten(picture: &Picture, kernel: Kernel, step: i32) -> Outcome<Vec<u8>> {
+    let &Picture { width, height, .. } = picture;
+    let setting = Setting::new().with_kernel(kernel).with_centre(width / 2, height / 2).with_step(step)?;
+    let samples: Vec<i32> = picture.greys.iter().map(|&grey| 128 * i32::from(grey)).collect();
+    let (result, _) = straightened(width, height, setting, &samples)?;
+    Ok(picture_of(width, height, &result)?.to_pgm())
+}

@@ -1,0 +1,53 @@
+//! Straightens pictures of analyser screens by three shears in whole numbers.
+//!
+//! The work is done by a library that is proved: for every input a call is either accepted, and its
+//! result is the one that document 01 defines, or refused under one of nine numbers with no buffer
+//! touched. Every sample of a straightened picture lies within 3/2 units (linear), 2 units (Keys) or
+//! 10 units (cubic spline) of the same three shears computed in exact fractions; 128 units are one grey.
+//!
+//! # A picture straightened
+//!
+#![cfg_attr(feature = "library", doc = "```")]
+#![cfg_attr(not(feature = "library"), doc = "```ignore")]
+//! # fn main() -> Result<(), straightener::Refusal> {
+//! use straightener::{level, straightened, Kernel, Setting};
+//!
+//! // A screen of 64 by 64 samples on which a graticule line runs from (4, 30) to (60, 33).
+//! let (width, height) = (64, 64);
+//! let picture: Vec<i32> = (0..64 * 64).map(|place| 128 * (place % 256)).collect();
+//!
+//! let step = level(4, 30, 60, 33)?;
+//! let setting = Setting::new().with_kernel(Kernel::Spline).with_centre(32, 32).with_step(step)?;
+//! let (result, count) = straightened(width, height, setting, &picture)?;
+//!
+//! assert_eq!(step, -110);
+//! assert_eq!(result.len(), 64 * 64);
+//! // Every line was interpolated in each pass but the one through the centre.
+//! assert_eq!(count, 63 + 63 + 63);
+//! # Ok(())
+//! # }
+//! ```
+//!
+//! # Parts
+//!
+//! [`straighten`], [`move_line`], [`level`], [`sine`], the readings and [`answer_line`] call the proved
+//! library. [`raw`] is its C interface. [`second`] is an independent second implementation of the same
+//! document, and [`exact`] its exact pictures in fractions; both are for tests and the benchmark.
+
+pub mod exact;
+pub mod second;
+
+#[cfg(feature = "library")]
+pub mod raw;
+#[cfg(feature = "library")]
+mod refusal;
+#[cfg(feature = "library")]
+mod wrapper;
+
+#[cfg(feature = "library")]
+pub use refusal::Refusal;
+#[cfg(feature = "library")]
+pub use wrapper::{
+    answer_line, floats_out, greys_out, level, line_work_places, move_line, reading, sine, straighten,
+    straightened, summary, work_places, Kernel, Reading, Setting, Summary,
+};

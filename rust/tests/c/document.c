@@ -1,0 +1,189 @@
+/*
+ * Calls every function of straightener.h on the examples of document 01, and ends with status 1 if
+ * one of them answers something else.
+ */
+#include "straightener.h"
+
+#include <stdio.h>
+#include <string.h>
+
+/* What an untouched place of a buffer holds. */
+#define UNTOUCHED 12345
+
+static int differences = 0;
+
+/* Notes a difference by the place in this file where it was found. */
+static void expect_at(int holds, int line)
+{
+    if (!holds) {
+        printf("line %d: not as documented\n", line);
+        differences = 1;
+    }
+}
+#define expect(holds) expect_at(holds, __LINE__)
+
+/* The place of an accepted call's answer is 0, 0. */
+static int is(straightener_answer answer, uint32_t number, size_t row, size_t column, uint32_t count)
+{
+    return answer.number == number && answer.row == row && answer.column == column && answer.count == count;
+}
+
+static void fill(int32_t *buffer, size_t length)
+{
+    size_t k;
+    for (k = 0; k < length; k++)
+        buffer[k] = UNTOUCHED;
+}
+
+static int all(const int32_t *buffer, size_t first, size_t end, int32_t value)
+{
+    size_t k;
+    for (k = first; k < end; k++)
+        if (buffer[k] != value)
+            return 0;
+    return 1;
+}
+
+struct line_example {
+    uint32_t kernel;
+    int32_t d;
+    size_t n;
+    int32_t line[4];
+    int32_t moved[4];
+};
+
+static const struct line_example examples[] = {
+    {0, 2048, 2, {0, 10}, {5, 5}},
+    {0, 2048, 2, {0, 1}, {1, 1}},
+    {0, 2048, 2, {0, -1}, {0, 0}},
+    {0, 1024, 4, {0, 0, 16, 0}, {0, 0, 12, 4}},
+    {0, -1, 3, {0, 4096, 0}, {1, 4095, 0}},
+    {0, 1, 3, {0, 4096, 0}, {0, 4095, 1}},
+    {1, -2048, 4, {0, 0, 16, 0}, {-1, 9, 9, -1}},
+    {2, 2048, 2, {0, 6}, {3, 3}},
+    {0, 4096, 4, {1, 2, 3, 4}, {4, 1, 2, 3}},
+    {1, 4096, 4, {1, 2, 3, 4}, {4, 1, 2, 3}},
+    {2, 4096, 4, {1, 2, 3, 4}, {4, 1, 2, 3}},
+    {0, 1, 1, {7}, {7}},
+    {1, 1, 1, {7}, {7}},
+    {2, 1, 1, {7}, {7}},
+};
+
+static void lines(void)
+{
+    size_t i, count = sizeof examples / sizeof examples[0];
+    for (i = 0; i < count; i++) {
+        const struct line_example *e = &examples[i];
+        int32_t result[6], work[10];
+        straightener_answer answer;
+        fill(result, 6);
+        fill(work, 10);
+        answer = straightener_move_line(e->n, e->kernel, e->d, e->line, e->n, result, 6, work, 10);
+        expect(is(answer, STRAIGHTENER_ACCEPTED, 0, 0, e->d % 4096 != 0));
+        expect(memcmp(result, e->moved, e->n * sizeof result[0]) == 0);
+        expect(all(result, e->n, 6, UNTOUCHED));
+        expect(all(work, 0, 2 * e->n, 0) && all(work, 2 * e->n, 10, UNTOUCHED));
+    }
+    printf("lines: %zu as the document has them\n", count);
+}
+
+static void pictures(void)
+{
+    const int32_t nine[9] = {1, 2, 3, 4, 5, 6, 7, 8, 9}, four[4] = {0, 10, 0, 10};
+    straightener_setting turn = {STRAIGHTENER_KEYS, 1, 1, -4096, 4096};
+    straightener_setting shear = {STRAIGHTENER_LINEAR, 0, 0, 2048, 0};
+    int32_t r[9], s[4], work[12];
+    straightener_answer turned = straightener_straighten(3, 3, turn, nine, 9, r, 9, work, 12);
+    straightener_answer sheared = straightener_straighten(2, 2, shear, four, 4, s, 4, work, 12);
+    expect(turned.number == 0 && sheared.number == 0 && all(work, 0, 12, 0));
+    printf("pictures: %d%d%d %d%d%d %d%d%d, count %u; %d %d %d %d, count %u\n", (int)r[0], (int)r[1], (int)r[2],
+           (int)r[3], (int)r[4], (int)r[5], (int)r[6], (int)r[7], (int)r[8], (unsigned)turned.count,
+           (int)s[0], (int)s[1], (int)s[2], (int)s[3], (unsigned)sheared.count);
+}
+
+static void refusals(void)
+{
+    const int32_t picture[6] = {0, 1, 2, 3, 32768, 5};
+    straightener_setting setting = {STRAIGHTENER_SPLINE, 2, 1, 4096, -4096};
+    int32_t r[6], work[12];
+    uint8_t answer[11];
+    straightener_answer sample = straightener_straighten(3, 2, setting, picture, 6, r, 6, work, 12);
+    unsigned n[10];
+    fill(r, 6);
+    fill(work, 12);
+    n[6] = straightener_straighten(3, 2, setting, picture, 6, r, 6, work, 12).number;
+    expect(is(sample, STRAIGHTENER_SAMPLE, 1, 1, 0));
+    setting.kernel = 3;
+    n[5] = straightener_straighten(3, 2, setting, picture, 6, r, 6, work, 12).number;
+    setting.a = 4097;
+    n[4] = straightener_straighten(3, 2, setting, picture, 6, r, 6, work, 12).number;
+    setting.cx = 3;
+    n[3] = straightener_straighten(3, 2, setting, picture, 6, r, 6, work, 12).number;
+    n[2] = straightener_straighten(3, 2, setting, NULL, 0, r, 6, work, 12).number;
+    n[1] = straightener_straighten(1025, 2, setting, NULL, 0, NULL, 0, NULL, 0).number;
+    n[7] = straightener_level(0, 0, 1024, 0).number;
+    n[8] = straightener_level(10, 0, 10, 0).number;
+    expect(straightener_answer_line((const uint8_t *)"junk", 4, answer, 11) == 11);
+    n[9] = (unsigned)(answer[1] - '0');
+    expect(all(r, 0, 6, UNTOUCHED) && all(work, 0, 12, UNTOUCHED));
+    printf("refusals: %u %u %u %u %u %u %u %u %u\n", n[1], n[2], n[3], n[4], n[5], n[6], n[7], n[8], n[9]);
+}
+
+static void steps(void)
+{
+    straightener_setting setting = {7, SIZE_MAX, 5, -11, 13};
+    straightener_change changed = straightener_with_step(setting, 1000);
+    straightener_change kept = straightener_with_step(setting, 1698);
+    expect(changed.number == 0 && changed.setting.kernel == 7 && changed.setting.cx == SIZE_MAX);
+    expect(changed.setting.cy == 5 && changed.setting.a == -1000 && changed.setting.b == 1887);
+    expect(kept.number == STRAIGHTENER_SHEAR && kept.setting.kernel == 7 && kept.setting.cx == SIZE_MAX);
+    expect(kept.setting.cy == 5 && kept.setting.a == -11 && kept.setting.b == 13);
+    expect(straightener_sine(-1697).value == -2897 && straightener_sine(-1698).number == STRAIGHTENER_SHEAR);
+    printf("steps: S(1) = %d, S(1000) = %d, S(1697) = %d\n", (int)straightener_sine(1).value,
+           (int)straightener_sine(1000).value, (int)straightener_sine(1697).value);
+    printf("levelling: %d, %d\n", (int)straightener_level(0, 0, 100, 1).value,
+           (int)straightener_level(0, 0, 1000, 1000).value);
+}
+
+static void readings(void)
+{
+    const int32_t picture[3] = {-64, 128, 32768};
+    uint8_t greys[4] = {9, 9, 9, 9};
+    float floats[4] = {9, 9, 9, 9};
+    straightener_reading_answer under = straightener_reading(3, 1, 0, 0, picture, 3);
+    straightener_reading_answer level = straightener_reading(3, 1, 1, 0, picture, 3);
+    straightener_reading_answer over = straightener_reading(3, 1, 2, 0, picture, 3);
+    straightener_reading_answer outside = straightener_reading(3, 1, 3, 0, picture, 3);
+    straightener_summary_answer summary = straightener_summary(3, 1, picture, 3);
+    expect(under.kind == STRAIGHTENER_UNDER && level.kind == STRAIGHTENER_LEVEL && over.kind == STRAIGHTENER_OVER);
+    expect(outside.number == STRAIGHTENER_POINT && outside.kind == STRAIGHTENER_LEVEL && outside.greys == 0);
+    expect(is(straightener_greys_out(3, 1, picture, 3, greys, 4), 0, 0, 0, 0));
+    expect(is(straightener_floats_out(3, 1, picture, 3, floats, 4), 0, 0, 0, 0));
+    expect(greys[0] == 0 && greys[1] == 1 && greys[2] == 255 && greys[3] == 9);
+    expect(floats[0] == -0.5f && floats[1] == 1 && floats[2] == 256 && floats[3] == 9);
+    printf("readings: Under %g, Level %g, Over %g; darkest %g, lightest %g\n", (double)under.greys,
+           (double)level.greys, (double)over.greys, (double)summary.darkest, (double)summary.lightest);
+}
+
+static void line_format(void)
+{
+    const char *line = "000000000100010000000080";
+    static uint8_t answer[STRAIGHTENER_LONGEST_ANSWER];
+    size_t written = straightener_answer_line((const uint8_t *)line, strlen(line), answer, sizeof answer);
+    expect(written == 23 && answer[22] == '\n');
+    expect(straightener_answer_line((const uint8_t *)line, strlen(line), answer, 22) == 0);
+    printf("line format: %.*s", (int)written, (const char *)answer);
+}
+
+int main(void)
+{
+    lines();
+    pictures();
+    refusals();
+    steps();
+    readings();
+    line_format();
+    if (differences == 0)
+        printf("all as documented\n");
+    return differences;
+}

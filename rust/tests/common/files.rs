@@ -1,0 +1,109 @@
+//! The files of `tests/vectors` and of the repository.
+
+use std::fs;
+use std::path::PathBuf;
+
+/// A path relative to the repository's folder.
+pub fn in_repository(path: &str) -> PathBuf {
+    PathBuf::from(env!("CARGO_MANIFEST_DIR")).join("..").join(path)
+}
+
+/// A file that the build makes in the repository's `target` folder; says how to make it if it is missing.
+pub fn built(path: &str, command: &str) -> PathBuf {
+    let built = in_repository("target").join(path);
+    assert!(built.is_file(), "{} is not there; make it by: {command}", built.display());
+    built
+}
+
+/// The text of a vector file, its runs `{n*text}` written out.
+fn text(name: &str) -> String {
+    let path = in_repository("rust/tests/vectors").join(name);
+    let packed = fs::read_to_string(&path).unwrap_or_else(|error| panic!("{}: {error}", path.display()));
+    unpacked(&packed)
+}
+
+/// Writes out every run `{n*text}`.
+fn unpacked(packed: &str) -> String {
+    let mut parts = packed.split('{');
+    let mut text = parts.next().unwrap_or_default().to_string();
+    for part in parts {
+        let (run, rest) = part.split_once('}').expect("a run ends in }");
+        let (times, unit) = run.split_once('*').expect("a run has a *");
+        text += &unit.repeat(times.parse().expect("a run has a number"));
+        text += rest;
+    }
+    text
+}
+
+/// The vectors of a file, each as the words of its input and of its answer; `expected` is their number.
+pub fn vectors(name: &str, expected: usize) -> Vec<(Vec<String>, Vec<String>)> {
+    let words = |part: &str| part.split_whitespace().map(str::to_string).collect();
+    let vectors: Vec<_> = text(name)
+        .lines()
+        .map(|line| line.split_once(" -> ").expect("a vector has an arrow"))
+        .map(|(input, answer)| (words(input), words(answer)))
+        .collect();
+    assert_eq!(vectors.len(), expected, "{name} is not whole");
+    vectors
+}
+
+/// A list of numbers.
+pub fn numbers<T: std::str::FromStr>(words: &[String]) -> Vec<T> {
+    words.iter().map(|word| number(word)).collect()
+}
+
+/// One number.
+pub fn number<T: std::str::FromStr>(word: &str) -> T {
+    word.parse().unwrap_or_else(|_| panic!("{word} is not a number of its type"))
+}
+
+/// The bits of a float, 8 hexadecimal digits.
+pub fn float_bits(word: &str) -> u32 {
+    u32::from_str_radix(word, 16).unwrap_or_else(|_| panic!("{word} is not 8 hexadecimal digits"))
+}
+
+/// The value of `key=value` among words.
+pub fn value<'a>(words: &'a [String], key: &str) -> &'a str {
+    let pairs = words.iter().filter_map(|word| word.split_once('='));
+    pairs.into_iter().find(|(name, _)| *name == key).unwrap_or_else(|| panic!("no {key}=")).1
+}
+
+/// One case of the line program: its name, its whole input and its whole output.
+pub struct Case {
+    pub name: String,
+    pub input: Vec<u8>,
+    pub output: Vec<u8>,
+}
+
+/// The bytes of a line of input, with `\xHH` for the byte HH.
+fn bytes(escaped: &str) -> Vec<u8> {
+    let mut parts = escaped.split("\\x");
+    let mut bytes = parts.next().unwrap_or_default().as_bytes().to_vec();
+    for part in parts {
+        bytes.push(u8::from_str_radix(&part[..2], 16).expect("an escape has two digits"));
+        bytes.extend_from_slice(&part.as_bytes()[2..]);
+    }
+    bytes
+}
+
+/// The cases of the line program.
+pub fn cases() -> Vec<Case> {
+    let mut cases: Vec<Case> = Vec::new();
+    for line in text("line_program.txt").lines() {
+        let (mark, rest) = (&line[..1], line.get(2..).unwrap_or_default());
+        if mark == "=" {
+            let name = rest.to_string();
+            cases.push(Case { name, input: Vec::new(), output: Vec::new() });
+            continue;
+        }
+        let case = cases.last_mut().expect("a case has a name");
+        match mark {
+            "<" => case.input.extend([bytes(rest), b"\n".to_vec()].concat()),
+            "-" => case.input.extend(bytes(rest)),
+            ">" => case.output.extend([rest.as_bytes(), b"\n"].concat()),
+            _ => panic!("unknown mark {mark}"),
+        }
+    }
+    assert_eq!(cases.len(), 45, "line_program.txt is not whole");
+    cases
+}

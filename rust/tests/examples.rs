@@ -1,0 +1,92 @@
+//! The files of `examples/`, and the tool that made them.
+
+mod common;
+
+use common::files::in_repository;
+use common::Implementation;
+use std::fs;
+
+for_both_implementations!(lines_have_their_answers);
+
+/// A file of the examples.
+fn example(name: &str) -> Vec<u8> {
+    let path = in_repository("examples").join(name);
+    fs::read(&path).unwrap_or_else(|error| panic!("{}: {error}", path.display()))
+}
+
+fn lines_have_their_answers(implementation: &dyn Implementation) {
+    let (lines, answers) = (example("lines.txt"), example("answers.txt"));
+    let lines: Vec<&[u8]> = lines.split_inclusive(|&byte| byte == b'\n').collect();
+    let answered = lines.iter().map(|line| implementation.answer_line(&line[..line.len() - 1]));
+    let answered: Vec<Vec<u8>> = answered.collect();
+    assert!(answered.concat() == answers, "answers.txt is not what lines.txt is answered");
+    let numbers: Vec<&[u8]> = answered.iter().map(|answer| &answer[..2]).collect();
+    assert_eq!(numbers.concat(), b"000000010304050900", "each number that a line can be refused under");
+}
+
+#[cfg(feature = "library")]
+mod tool {
+    use super::example;
+    use std::io::Write;
+    use std::process::{Command, Stdio};
+
+    /// What the tool writes for some words and some standard input, or its complaint.
+    fn pgm(words: &str, input: &[u8]) -> Result<Vec<u8>, String> {
+        let mut tool = Command::new(env!("CARGO_BIN_EXE_pgm"))
+            .args(words.split_whitespace())
+            .stdin(Stdio::piped())
+            .stdout(Stdio::piped())
+            .stderr(Stdio::piped())
+            .spawn()
+            .expect("the tool starts");
+        // A command that takes no input may end before it is handed over.
+        let _ = tool.stdin.take().expect("a pipe").write_all(input);
+        let ended = tool.wait_with_output().expect("the tool ends");
+        if ended.status.success() {
+            Ok(ended.stdout)
+        } else {
+            Err(String::from_utf8_lossy(&ended.stderr).into_owned())
+        }
+    }
+
+    #[test]
+    fn the_picture_is_the_last_line() {
+        let line = pgm("line spline 150", &example("screen.pgm")).expect("a line");
+        assert!(example("lines.txt").ends_with(&line));
+    }
+
+    #[test]
+    fn the_level_picture_comes_by_both_ways() {
+        let answers = example("answers.txt");
+        let answer = answers.split(|&byte| byte == b'\n').rev().nth(1).expect("a last answer");
+        assert!(pgm("picture", answer).expect("a picture") == example("level.pgm"));
+        assert!(
+            pgm("straighten spline 150", &example("screen.pgm")).expect("a picture") == example("level.pgm")
+        );
+    }
+
+    #[test]
+    fn the_png_pictures_are_those_of_the_pgm_files() {
+        for name in ["screen", "level"] {
+            let png = pgm("png", &example(&format!("{name}.pgm"))).expect("a picture");
+            assert!(png == example(&format!("{name}.png")));
+        }
+    }
+
+    #[test]
+    fn two_points_on_the_middle_line_give_the_step() {
+        assert_eq!(pgm("level 11 34 52 31", b"").expect("a step"), b"150\n");
+    }
+
+    #[test]
+    fn complaints_say_what_is_wrong() {
+        let complaint = |words: &str, input: &[u8]| pgm(words, input).expect_err("a complaint");
+        assert!(complaint("", b"").contains("pgm straighten KERNEL STEP"));
+        assert!(complaint("straighten cubic 80", &example("screen.pgm")).contains("linear, keys or spline"));
+        assert!(complaint("straighten keys 1698", &example("screen.pgm")).contains("-1,697 to 1,697"));
+        assert!(complaint("straighten keys 80", b"P3").contains("PGM"));
+        assert!(complaint("picture", b"0900000000\n").contains("number 9"));
+        assert!(complaint("level 0 0 5 50", b"").contains("45 degrees"));
+        assert!(complaint("line keys 80", b"P2 65 64 255").contains("PGM file ends too early"));
+    }
+}
