@@ -1,38 +1,43 @@
 -- What a well-formed line tells, and the text that answers it, by the straightener's outcome. Assumes nothing.
-use Prim.Native.Nat.{ℕ, zero, suc, _+_, _*_, _≤_, _<_}
+use Prim.Native.Nat.{ℕ, zero, suc, _+_, _*_, _≤_, _<_, max}
 use mathlib.Core.Bool.{Bool, true, false, _&&_, cond, true≢false}
 use mathlib.Core.List.{List, _++_, append-nil}
 use mathlib.Core.Path.{_≡_, refl, sym, ap, _∙_}
 use native.Mathlib.Omega.{arith}
-use borrow.Author.Tests.{leb-true, eqb-true}
+use borrow.Author.Tests.{leb-true, eqb-true, ne-eqb}
 use lib.Dec.{leb}
 use lib.IntN.{ℤ, pos, natAbs}
-use lib.ListN.{length, getD, take, drop, drop-of-length-le}
+use lib.ListN.{length, getD, take, drop, replicate, drop-of-length-le}
 use lib.Seq.{take-all}
 use Rattle.digits.proofs.Test.{all-at, digit-worth}
 use Rattle.digits.specs.Digit.{allDigits}
 use Rattle.lists.proofs.Tab.{tab-at, tab-length}
 use Rattle.lists.specs.Line.{line}
 use Rattle.lists.specs.Tab.{tab}
-use Rattle.refusals.specs.Tests.{badSize, badKernel}
+use Rattle.refusals.specs.declared.Verdict.the-variants as verdict
 use Rattle.refusals.specs.Judging.{whenAccepted}
 use Rattle.passes.specs.Picture.{straighten}
 use Rattle.passes.specs.Count.{count}
-use Rattle.pictures.specs.Judge.{badCentre, judged}
 use Rattle.pictures.specs.Answer as answer
 use Rattle.pictures.specs.Answer.{outcomeOf, rowMoves, columnMoves, verdictOf}
 use Rattle.pictures.specs.declared.Outcome.{Outcome}
-use Rattle.pictures.specs.declared.Outcome.the-variants.{Straightened, Refused}
+use Rattle.pictures.specs.declared.Outcome.the-variants as outcome
 use Rattle.settings.specs.declared.Setting.{Setting}
-use Rattle.steps.specs.Step.{beyond}
-use Rattle.hexlines.specs.Answer.{settingIn, numberOf, countOf, straightenedOf, refusalText, acceptedText, judgedText, answerOf, askedOf}
-use Rattle.hexlines.specs.Line.{kernelIn, stepIn, widthIn, heightIn, sizeIn, wellFormed, sampleAt, samplesIn}
-use Rattle.hexlines.proofs.Outcome.{outOfRange, verdictFor, verdict-is, straightened-length}
+use Rattle.hexlines.specs.Answer.{settingIn, numberOf, countOf, straightenedOf, refusalText, acceptedText, judgedText, isAccepted, answerOf}
+use Rattle.hexlines.specs.Answered.{Accepted, workIn, writtenOf, LineAnswered}
+use Rattle.hexlines.specs.declared.Written.the-variants.{Bytes, Refused}
+use Rattle.hexlines.specs.Room.{fittedLength, Fitted}
+use Rattle.hexlines.specs.Line.{widthIn, heightIn, sizeIn, wellFormed, sampleAt, samplesIn}
+use Rattle.hexlines.proofs.Outcome.{verdict-accepted, straightened-length}
 use Rattle.hexlines.proofs.Text.{length-refusal, length-accepted}
 
 both : (a b : Bool) → (a && b) ≡ true → (a ≡ true) × (b ≡ true)
 both true b e = (refl, e)
 both false b e = absurd (true≢false (sym e))
+
+and-false : (a : Bool) → (a && false) ≡ false
+and-false true = refl
+and-false false = refl
 
 pub record Well (l : List ℕ) : Type 0 where
   pub long : 22 ≤ length l
@@ -56,70 +61,84 @@ samples-within l w k h =
     let low = digit-worth (getD l (23 + 2 * k) 0) (all-at l (23 + 2 * k) (w .digits) (omega (arith, w .whole))) .1 in
     rw (tab-at (sampleAt l) (sizeIn l) k (pos 0) h) (omega arith)
 
--- an outcome by a number tells that number
-accepted-only : (m number n : ℕ) → outcomeOf (verdictFor number) m ≡ Straightened n → (number ≡ 0) × (n ≡ m)
-accepted-only m zero n e = (refl, cc)
-accepted-only m (suc number) n e = let z : _≡_ {A = ℕ} 0 1 = cc in absurd (omega arith)
+-- a call of the straightener for a line that no number applies to, with what it answers
+pub record Called (l : List ℕ) (w h : ℕ) (s : Setting) (picture result work result′ work′ : List ℤ) (o : Outcome) : Type 0 where
+  pub line : Accepted l w h s
+  pub filled : picture ≡ tab (sampleAt l) (w * h)
+  pub result-places : length result ≡ w * h
+  pub work-places : length work ≡ 4096
+  pub outcome : o ≡ outcomeOf (verdictOf w h s picture result work) (count w h (rowMoves s) (columnMoves s))
+  pub written : result′
+      ≡ whenAccepted (verdictOf w h s picture result work)
+      (straighten (answer.kernelIn s) w h (rowMoves s) (columnMoves s) (take (w * h) picture) ++ drop (w * h) result)
+      result
+  pub cleared : work′ ≡ whenAccepted (verdictOf w h s picture result work) (replicate (4 * max w h) (pos 0) ++ drop (4 * max w h) work) work
 
-refused-only : (m number k row column : ℕ) → outcomeOf (verdictFor number) m ≡ Refused k row column → (l : List ℕ)
-    → refusalText k row column ≡ judgedText number l
-unfolding judgedText
-refused-only m zero k row column e l = let z : _≡_ {A = ℕ} 0 1 = cc in absurd (omega arith)
-refused-only m (suc number) k row column e l =
-    let a : k ≡ suc number = cc in
-    let b : row ≡ 0 = cc in
-    let c : column ≡ 0 = cc in
-    rw (a, b, c) refl
+module _ {l : List ℕ} {w h : ℕ} {s : Setting} {picture result work result′ work′ : List ℤ} {o : Outcome} (c : Called l w h s picture result work result′ work′ o) where
+  fine : Well l
+  fine = well l (c .line .well)
 
--- acceptance tells that the step is within its range
-step-fine : (l : List ℕ) → numberOf l ≡ 0 → askedOf l ≡ settingIn l
-unfolding numberOf askedOf
-step-fine l e = by (badSize (widthIn l) (heightIn l)) (badCentre (widthIn l) (heightIn l) (settingIn l)) (beyond (stepIn l)) (badKernel (kernelIn l)) e
-  where
-    by : (p q r s : Bool) → _≡_ {A = ℕ} (cond p 1 (cond q 3 (cond r 4 (cond s 5 0)))) 0 → cond r (outOfRange l) (settingIn l) ≡ settingIn l
-    by true q r s h = absurd (omega arith)
-    by false true r s h = absurd (omega arith)
-    by false false true s h = absurd (omega arith)
-    by false false false s h = refl
-
--- at a call of the straightener for a line
-module _ (l : List ℕ) (w h : ℕ) (picture res work after : List ℤ) (s : Setting) (o : Outcome)
-    (fine : Well l) (ew : w ≡ widthIn l) (eh : h ≡ heightIn l) (es : s ≡ askedOf l) (ep : picture ≡ tab (sampleAt l) (w * h))
-    (lr : length res ≡ w * h) (lw : length work ≡ 4096)
-    (eo : o ≡ outcomeOf (verdictOf w h s picture res work) (count w h (rowMoves s) (columnMoves s)))
-    (er : after
-    ≡ whenAccepted (verdictOf w h s picture res work)
-    (straighten (answer.kernelIn s) w h (rowMoves s) (columnMoves s) (take (w * h) picture) ++ drop (w * h) res)
-    res) where
-  verdict : verdictOf w h s picture res work ≡ verdictFor (numberOf l)
+  straighten-verdict : verdictOf w h s picture result work ≡ verdict.Accepted
   unfolding samplesIn
-  verdict =
-      rw (es, lw, lr, ep, ew, eh)
-      (verdict-is l (samplesIn l) (sizeIn l) (omega (arith, tab-length (sampleAt l) (sizeIn l))) (omega arith) (samples-within l fine))
+  straighten-verdict =
+      rw (c .line .setting, c .work-places, c .result-places, c .filled, c .line .width, c .line .height)
+      (verdict-accepted l (samplesIn l) (sizeIn l) (c .line .none) (omega (arith, tab-length (sampleAt l) (sizeIn l))) (omega arith) (samples-within l fine))
 
-  says : o ≡ outcomeOf (verdictFor (numberOf l)) (count w h (rowMoves s) (columnMoves s))
-  says = eo ∙ ap (λ v. outcomeOf v (count w h (rowMoves s) (columnMoves s))) verdict
+  says : o ≡ outcome.Straightened (count w h (rowMoves s) (columnMoves s))
+  says = c .outcome ∙ rw straighten-verdict refl
 
-  pub accepted-text : (n : ℕ) → o ≡ Straightened n → acceptedText n w h after ≡ judgedText (numberOf l) l
-  unfolding judgedText straightenedOf countOf samplesIn settingIn
+  pub samples-read : picture ≡ samplesIn l
+  unfolding samplesIn
+  samples-read = c .filled ∙ rw (c .line .width, c .line .height) refl
+
+  pub straightened-is : result′ ≡ straightenedOf l
+  unfolding straightenedOf samplesIn settingIn
+  straightened-is =
+      let whole : take (w * h) picture ≡ picture = take-all (w * h) picture (omega (arith, ap length (c .filled) ∙ tab-length (sampleAt l) (w * h))) in
+      c .written ∙ rw (straighten-verdict, whole, drop-of-length-le result {i = w * h} (omega (arith, c .result-places)), append-nil, c .line .setting, c .filled, c .line .width, c .line .height) refl
+
+  pub work-cleared : work′ ≡ replicate (workIn l) (pos 0) ++ drop (workIn l) work
+  work-cleared = c .cleared ∙ rw (straighten-verdict, c .line .width, c .line .height) refl
+
+  pub accepted-text : (n : ℕ) → o ≡ outcome.Straightened n → acceptedText n w h result′ ≡ judgedText 0 l
+  unfolding judgedText countOf settingIn
   accepted-text n e =
-      let (z, k) = accepted-only (count w h (rowMoves s) (columnMoves s)) (numberOf l) n (sym says ∙ e) in
-      let whole : take (w * h) picture ≡ picture = take-all (w * h) picture (omega (arith, ap length ep ∙ tab-length (sampleAt l) (w * h))) in
-      let f : after ≡ straightenedOf l =
-      er ∙ rw (verdict, z, whole, drop-of-length-le res {i = w * h} (omega arith), append-nil, es, step-fine l z, ep, ew, eh) refl in
-      rw (z, k, f, es, step-fine l z, ew, eh) refl
+      let k : n ≡ count w h (rowMoves s) (columnMoves s) = cc (says, e) in
+      rw (k, straightened-is, c .line .setting, c .line .width, c .line .height) refl
 
-  pub refused-text : (number row column : ℕ) → o ≡ Refused number row column → refusalText number row column ≡ judgedText (numberOf l) l
-  refused-text number row column e = refused-only (count w h (rowMoves s) (columnMoves s)) (numberOf l) number row column (sym says ∙ e) l
+  -- the straightener does not refuse it
+  pub never-refused : (number row column : ℕ) → o ≡ outcome.Refused number row column → ⊥
+  never-refused number row column e = let z : _≡_ {A = ℕ} 0 1 = cc (says, e) in omega arith
 
--- the answer to a line that is well formed, and to one that is not
-pub answer-well : (l : List ℕ) → wellFormed l ≡ true → judgedText (numberOf l) l ≡ answerOf l
+-- the answer to a line by its number: none applies, one does, and 9
+pub answer-accepted : (l : List ℕ) → wellFormed l ≡ true → numberOf l ≡ 0 → judgedText 0 l ≡ answerOf l
 unfolding answerOf
-answer-well l e = rw e refl
+answer-accepted l e z = rw (e, z) refl
+
+pub answer-refused : (l : List ℕ) → wellFormed l ≡ true → 0 < numberOf l → refusalText (numberOf l) 0 0 ≡ answerOf l
+unfolding answerOf judgedText
+answer-refused l e h = by (numberOf l) refl h
+  where
+    by : (n : ℕ) → numberOf l ≡ n → 0 < n → refusalText (numberOf l) 0 0 ≡ answerOf l
+    by zero f k = absurd (omega arith)
+    by (suc n) f k = rw (e, f) refl
 
 pub answer-ill : (l : List ℕ) → wellFormed l ≡ false → refusalText 9 0 0 ≡ answerOf l
 unfolding answerOf
 answer-ill l e = rw e refl
+
+-- a line is accepted where it is well formed and no number applies
+pub accepted-line : (l : List ℕ) → wellFormed l ≡ true → numberOf l ≡ 0 → isAccepted l ≡ true
+unfolding isAccepted
+accepted-line l e z = rw (e, z) refl
+
+pub refused-line : (l : List ℕ) → 0 < numberOf l → isAccepted l ≡ false
+unfolding isAccepted
+refused-line l h = rw (ne-eqb (numberOf l) 0 (λ e. omega arith)) (and-false (wellFormed l))
+
+pub ill-line : (l : List ℕ) → wellFormed l ≡ false → isAccepted l ≡ false
+unfolding isAccepted
+ill-line l e = rw e refl
 
 -- the sizes of a well-formed line, at the numbers read from it
 pub small : (l : List ℕ) (w h : ℕ) → wellFormed l ≡ true → w ≡ widthIn l → h ≡ heightIn l
@@ -134,10 +153,38 @@ long-ill l h = by (wellFormed l) refl
     by false e = refl
     by true e = let f = well l e in absurd (omega (arith, f .small, f .whole))
 
+-- no answer has more than eleven bytes for each byte of its line and for the line feed
+judged-few : (l : List ℕ) (number : ℕ) → length l ≡ 22 + 2 * sizeIn l → length (judgedText number l) ≤ 11 * (length l + 1)
+unfolding judgedText
+judged-few l zero h = rw (length-accepted (countOf l) (widthIn l) (heightIn l) (straightenedOf l), straightened-length l) (omega arith)
+judged-few l (suc number) h = rw (length-refusal (suc number) 0 0) (omega arith)
+
+pub answer-few : (l : List ℕ) → length (answerOf l) ≤ 11 * (length l + 1)
+unfolding answerOf
+answer-few l = by (wellFormed l) refl
+  where
+    by : (t : Bool) → wellFormed l ≡ t → length (cond t (judgedText (numberOf l) l) (refusalText 9 0 0)) ≤ 11 * (length l + 1)
+    by true e = judged-few l (numberOf l) (well l e .whole)
+    by false e = rw (length-refusal 9 0 0) (omega arith)
+
 judged-short : (l : List ℕ) (number : ℕ) → sizeIn l ≤ 4096 → length (judgedText number l) ≤ 32783
 unfolding judgedText
 judged-short l zero h = rw (length-accepted (countOf l) (widthIn l) (heightIn l) (straightenedOf l), straightened-length l) (omega arith)
 judged-short l (suc number) h = rw (length-refusal (suc number) 0 0) (omega arith)
+
+-- and every answer has some
+judged-some : (l : List ℕ) (number : ℕ) → 0 < length (judgedText number l)
+unfolding judgedText
+judged-some l zero = rw (length-accepted (countOf l) (widthIn l) (heightIn l) (straightenedOf l)) (omega arith)
+judged-some l (suc number) = rw (length-refusal (suc number) 0 0) (omega arith)
+
+pub answer-some : (l : List ℕ) → 0 < length (answerOf l)
+unfolding answerOf
+answer-some l = by (wellFormed l)
+  where
+    by : (t : Bool) → 0 < length (cond t (judgedText (numberOf l) l) (refusalText 9 0 0))
+    by true = judged-some l (numberOf l)
+    by false = rw (length-refusal 9 0 0) (omega arith)
 
 pub answer-short : (l : List ℕ) → length (answerOf l) ≤ 32783
 unfolding answerOf
@@ -146,3 +193,21 @@ answer-short l = by (wellFormed l) refl
     by : (t : Bool) → wellFormed l ≡ t → length (cond t (judgedText (numberOf l) l) (refusalText 9 0 0)) ≤ 32783
     by true e = judged-short l (numberOf l) (well l e .small)
     by false e = rw (length-refusal 9 0 0) (omega arith)
+
+-- ---- the call for one line: no answer is empty, so 0 bytes say that it does not fit
+module _ (l out out′ : List ℕ) (n : ℕ) (f : Fitted (answerOf l) out out′ n) where
+  pub answered-short : n ≡ 0 → LineAnswered l out out′ (Refused 2)
+  unfolding writtenOf fittedLength
+  answered-short z = by (leb (length (answerOf l)) (length out)) refl (f .wrote)
+    where
+      by : (t : Bool) → leb (length (answerOf l)) (length out) ≡ t → n ≡ cond t (length (answerOf l)) 0 → LineAnswered l out out′ (Refused 2)
+      by true e k = absurd (omega (arith, answer-some l))
+      by false e k = record { answer = rw e refl; text = f .holds; number = rw e refl; bytes = rw e refl }
+
+  pub answered-bytes : (n ≡ 0 → ⊥) → LineAnswered l out out′ (Bytes n)
+  unfolding writtenOf fittedLength
+  answered-bytes some = by (leb (length (answerOf l)) (length out)) refl (f .wrote)
+    where
+      by : (t : Bool) → leb (length (answerOf l)) (length out) ≡ t → n ≡ cond t (length (answerOf l)) 0 → LineAnswered l out out′ (Bytes n)
+      by true e k = record { answer = rw (e, k) refl; text = f .holds; number = rw e refl; bytes = rw e k }
+      by false e k = absurd (some k)

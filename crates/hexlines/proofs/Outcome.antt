@@ -1,9 +1,9 @@
--- The setting that the straightener is asked for, as its tests see it: the line's kernel and centre, and a shear out of range where the
--- line's step is; and its verdict on a well-formed line, whose lent places are enough and whose samples are in range. Assumes nothing.
-use Prim.Native.Nat.{ℕ, zero, suc, _*_, _≤_, _<_, max}
-use mathlib.Core.Bool.{Bool, true, false, _||_, cond, true≢false}
+-- The lowest number that applies to a line, as the code judges it; and the straightener's verdict on a line that none applies to: its lent
+-- places are enough and its samples are in range. Assumes nothing.
+use Prim.Native.Nat.{ℕ, suc, _*_, _≤_, _<_, max}
+use mathlib.Core.Bool.{Bool, true, false, cond}
 use mathlib.Core.List.{List}
-use mathlib.Core.Path.{_≡_, refl, sym, ap, _∙_}
+use mathlib.Core.Path.{_≡_, refl, sym, _∙_}
 use native.Mathlib.Omega.{arith}
 use native.Mathlib.Nat.{mul-comm}
 use borrow.Author.Tests.{le-ltb}
@@ -15,20 +15,18 @@ use Rattle.lists.proofs.Table.{every, at}
 use Rattle.lists.specs.Line.{line}
 use Rattle.passes.specs.Picture.{straighten}
 use Rattle.passes.proofs.Places.{length-pictured}
-use Rattle.refusals.specs.Tests.{badSize, badKernel, short, beyondOf, firstBad}
-use Rattle.refusals.specs.Judging.{refusedIf, ofFound}
-use Rattle.refusals.specs.declared.Verdict.{Verdict}
-use Rattle.refusals.specs.declared.Verdict.the-variants.{Accepted, Refused}
+use Rattle.refusals.specs.Tests.{badSize, badKernel, short, firstBad}
+use Rattle.refusals.specs.declared.Verdict.the-variants.{Accepted}
 use Rattle.refusals.proofs.Tests.{size-good, beyond-good, good-beyond}
 use Rattle.refusals.proofs.First.{nothing-bad}
-use Rattle.settings.specs.declared.Setting.{Setting}
 use Rattle.settings.specs.Setting.{withShears}
 use Rattle.steps.specs.Table.{sines}
-use Rattle.steps.specs.Step.{entry, beyond, S, changeOf}
 use Rattle.steps.specs.declared.Change.{Change}
+use Rattle.steps.specs.Step.{entry, beyond, S, changeOf}
 use Rattle.pictures.specs.Judge.{range, tooShort, badCentre, badShears, judged}
-use Rattle.hexlines.specs.Answer.{settingIn, numberOf, straightenedOf, askedOf}
-use Rattle.hexlines.specs.Line.{kernelIn, stepIn, widthIn, heightIn, cxIn, cyIn, sizeIn}
+use Rattle.hexlines.specs.Answer.{changeIn, settingIn, numberOf, straightenedOf}
+use Rattle.hexlines.specs.Answered.{lowest}
+use Rattle.hexlines.specs.Line.{kernelIn, stepIn, widthIn, heightIn, sizeIn}
 
 -- ---- a step within its range makes shears within theirs
 every-small : T (every (λ t s. leb s 4096) 0 sines)
@@ -43,67 +41,54 @@ unfolding S
 sine-small (pos t) h = entry-small t (omega arith)
 sine-small (negsuc t) h = rw (natAbs-negℤ (pos (entry (suc t)))) (entry-small (suc t) (omega arith))
 
-step-within : (t : ℤ) → beyond t ≡ false → (natAbs (negℤ t) ≤ 4096) × (natAbs (S t) ≤ 4096)
-step-within t e = let h = beyond-good t e in (rw (natAbs-negℤ t) (omega arith), sine-small t h)
+shears-within : (l : List ℕ) → beyond (stepIn l) ≡ false → badShears (settingIn l) ≡ false
+unfolding settingIn badShears
+shears-within l e =
+    let h = beyond-good (stepIn l) e in
+    let a : natAbs (negℤ (stepIn l)) ≤ 4096 = rw (natAbs-negℤ (stepIn l)) (omega arith) in
+    rw (good-beyond (negℤ (stepIn l)) a, good-beyond (S (stepIn l)) (sine-small (stepIn l) h)) refl
 
--- ---- by the step
+-- ---- the lowest number that applies
 module _ (l : List ℕ) where
-  abbrev pub outOfRange : Setting
-  outOfRange = record { kernel = kernelIn l; cx = cxIn l; cy = cyIn l; a = pos 4097; b = pos 0 }
+  -- a refused step keeps the setting's kernel and centre, so its number is judged in its place
+  pub lowest-is : lowest (widthIn l) (heightIn l) (changeIn l) ≡ numberOf l
+  unfolding lowest changeIn changeOf numberOf settingIn badCentre
+  lowest-is = by (beyond (stepIn l)) refl
+    where
+      by : (t : Bool) → beyond (stepIn l) ≡ t → lowest (widthIn l) (heightIn l) (changeIn l) ≡ numberOf l
+      by true e = rw e refl
+      by false e = rw e refl
 
-  asked-centre : (t : Bool) → badCentre (widthIn l) (heightIn l) (cond t outOfRange (settingIn l)) ≡ badCentre (widthIn l) (heightIn l) (settingIn l)
-  unfolding settingIn badCentre
-  asked-centre true = refl
-  asked-centre false = refl
+  -- the same at the numbers read from the line
+  pub number-is : {w h n : ℕ} {change : Change} → change ≡ changeIn l → w ≡ widthIn l → h ≡ heightIn l → n ≡ lowest w h change → n ≡ numberOf l
+  number-is c x y e = e ∙ rw (c, x, y) lowest-is
 
-  asked-kernel : (t : Bool) → badKernel ((cond t outOfRange (settingIn l)) .kernel) ≡ badKernel (kernelIn l)
-  unfolding settingIn
-  asked-kernel true = refl
-  asked-kernel false = refl
+  -- what a line tells that no number applies to
+  pub record None : Type 0 where
+    pub size : badSize (widthIn l) (heightIn l) ≡ false
+    pub centre : badCentre (widthIn l) (heightIn l) (settingIn l) ≡ false
+    pub step : beyond (stepIn l) ≡ false
+    pub kernel : badKernel (kernelIn l) ≡ false
 
-  asked-shears : (t : Bool) → beyond (stepIn l) ≡ t → badShears (cond t outOfRange (settingIn l)) ≡ t
-  unfolding settingIn badShears beyondOf
-  asked-shears true e = refl
-  asked-shears false e =
-      let (p, q) = step-within (stepIn l) e in
-      rw (le-ltb 4096 (natAbs (negℤ (stepIn l))) p, le-ltb 4096 (natAbs (S (stepIn l))) q) refl
+  pub none : numberOf l ≡ 0 → None
+  unfolding numberOf
+  none e =
+      by (badSize (widthIn l) (heightIn l)) (badCentre (widthIn l) (heightIn l) (settingIn l)) (beyond (stepIn l)) (badKernel (kernelIn l)) refl refl refl refl e
+    where
+      by : (p q r s : Bool) → badSize (widthIn l) (heightIn l) ≡ p → badCentre (widthIn l) (heightIn l) (settingIn l) ≡ q → beyond (stepIn l) ≡ r
+          → badKernel (kernelIn l) ≡ s → _≡_ {A = ℕ} (cond p 1 (cond q 3 (cond r 4 (cond s 5 0)))) 0 → None
+      by true q r s a b c d h = absurd (omega arith)
+      by false true r s a b c d h = absurd (omega arith)
+      by false false true s a b c d h = absurd (omega arith)
+      by false false false true a b c d h = absurd (omega arith)
+      by false false false false a b c d h = record { size = a; centre = b; step = c; kernel = d }
 
--- the change by step that `asked` goes by
-module _ (l : List ℕ) (k cx cy : ℕ) (t : ℤ) (r : Change) (ek : k ≡ kernelIn l) (ex : cx ≡ cxIn l) (ey : cy ≡ cyIn l) (et : t ≡ stepIn l)
-    (er : r ≡ changeOf (record { kernel = k; cx = cx; cy = cy; a = pos 0; b = pos 0 }) t) where
-  abbrev Changed : Bool → Change → Type 0
-  Changed b r =
-      (r .number ≡ 0 → r .setting ≡ cond b (outOfRange l) (settingIn l))
-      × ((r .number ≡ 0 → ⊥) → outOfRange l ≡ cond b (outOfRange l) (settingIn l))
+  -- the setting is then the line's own
+  pub change-setting : {change : Change} → change ≡ changeIn l → numberOf l ≡ 0 → change .setting ≡ settingIn l
+  unfolding changeIn changeOf settingIn
+  change-setting c e = rw (c, none e .step) refl
 
-  by-step : (b : Bool) → beyond (stepIn l) ≡ b → Changed b r
-  unfolding changeOf settingIn
-  by-step true e = rw (er, et, e, ek, ex, ey) ((λ (z : _≡_ {A = ℕ} 4 0). absurd (omega arith)), λ z. refl)
-  by-step false e = rw (er, et, e, ek, ex, ey) ((λ z. refl), λ z. absurd (z refl))
-
-  pub asked-accepted : r .number ≡ 0 → r .setting ≡ askedOf l
-  unfolding askedOf
-  asked-accepted = by-step (beyond (stepIn l)) refl .0
-
-  pub asked-refused : (r .number ≡ 0 → ⊥) → _≡_ {A = Setting} (record { kernel = k; cx = cx; cy = cy; a = pos 4097; b = pos 0 }) (askedOf l)
-  unfolding askedOf
-  asked-refused z = rw (ek, ex, ey) (by-step (beyond (stepIn l)) refl .1 z)
-
--- ---- the verdict by the lowest number that applies
-abbrev pub verdictFor : ℕ → Verdict
-verdictFor zero = Accepted
-verdictFor (suc number) = Refused (suc number) 0 0
-
-ordered : (size room centre shears kernel : Bool) (found : Verdict) → (size ≡ false → room ≡ false) → found ≡ Accepted
-    → refusedIf size 1 (refusedIf room 2 (refusedIf centre 3 (refusedIf shears 4 (refusedIf kernel 5 found))))
-    ≡ verdictFor (cond size 1 (cond centre 3 (cond shears 4 (cond kernel 5 0))))
-ordered true room centre shears kernel found h e = refl
-ordered false true centre shears kernel found h e = absurd (true≢false (h refl))
-ordered false false true shears kernel found h e = refl
-ordered false false false true kernel found h e = refl
-ordered false false false false true found h e = refl
-ordered false false false false false found h e = e
-
+-- ---- the straightener's verdict
 -- the places lent are enough, whatever size is accepted
 enough : (W H p m : ℕ) → W * H ≤ p → W * H ≤ m → badSize W H ≡ false → tooShort W H p m 4096 ≡ false
 unfolding tooShort short
@@ -112,18 +97,21 @@ enough W H p m hp hm e =
     let room : 4 * max W H ≤ 4096 = omega (arith, size .0 .1, size .1 .1) in
     rw (le-ltb p (W * H) hp, le-ltb m (W * H) hm, le-ltb 4096 (4 * max W H) room) refl
 
--- the straightener's verdict on a line
-pub verdict-is : (l : List ℕ) (picture : List ℤ) (m : ℕ) → widthIn l * heightIn l ≤ length picture → widthIn l * heightIn l ≤ m
-    → ((k : ℕ) → k < widthIn l * heightIn l → natAbs (line picture k) ≤ 32767)
-    → judged (widthIn l) (heightIn l) (askedOf l) picture m 4096 ≡ verdictFor (numberOf l)
-unfolding judged askedOf numberOf
-verdict-is l picture m hp hm within =
-    rw (asked-centre l (beyond (stepIn l)), asked-shears l (beyond (stepIn l)) refl, asked-kernel l (beyond (stepIn l)))
-    (ordered (badSize (widthIn l) (heightIn l)) (tooShort (widthIn l) (heightIn l) (length picture) m 4096) (badCentre (widthIn l) (heightIn l) (settingIn l)) (beyond (stepIn l)) (badKernel (kernelIn l))
-    (ofFound (firstBad range (widthIn l) (heightIn l) picture)) (enough (widthIn l) (heightIn l) (length picture) m hp hm) found)
-  where
-    found : ofFound (firstBad range (widthIn l) (heightIn l) picture) ≡ Accepted
-    found = ap ofFound (nothing-bad range (widthIn l) (heightIn l) picture .1 (λ i h. within i (omega (arith, mul-comm (widthIn l) (heightIn l)))))
+pub verdict-accepted : (l : List ℕ) (picture : List ℤ) (m : ℕ) → numberOf l ≡ 0 → sizeIn l ≤ length picture → sizeIn l ≤ m
+    → ((k : ℕ) → k < sizeIn l → natAbs (line picture k) ≤ 32767)
+    → judged (widthIn l) (heightIn l) (settingIn l) picture m 4096 ≡ Accepted
+unfolding judged settingIn
+verdict-accepted l picture m e hp hm within =
+    let n = none l e in
+    rw (
+      n .size,
+      enough (widthIn l) (heightIn l) (length picture) m hp hm (n .size),
+      n .centre,
+      shears-within l (n .step),
+      n .kernel,
+      nothing-bad range (widthIn l) (heightIn l) picture .1 (λ i h. within i (omega (arith, mul-comm (widthIn l) (heightIn l)))),
+    )
+    refl
 
 -- the picture straightened has as many samples as the line has greys
 pub straightened-length : (l : List ℕ) → length (straightenedOf l) ≡ sizeIn l

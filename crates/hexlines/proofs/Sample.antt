@@ -19,6 +19,8 @@ use Rattle.hexlines.specs.Line.{fieldAt, wellFormed, sampleAt, samplesIn
 use Rattle.hexlines.specs.Answer.{settingIn, numberOf, countOf, straightenedOf, refusalText, samplesText, acceptedText, judgedText, answerOf}
 
 -- document 01's line, 000000000100010000000080 prints 0000000001000100004000
+-- 3 by 2 about column 2 and row 0, by step 1,000 and linear: 0003E800030002000200000010203040FF prints
+-- 00000400030002000017EA00001DCC00001000000009BA0000324B00004DC5
 -- an empty line prints 0900000000
 -- W of 0 with 22 digits is judged: 1, 0000000000000100000000 prints 0100000000
 -- a centre outside the picture, a step beyond its range and an unknown kernel: 3, 0906A2000100010001000080 prints 0300000000
@@ -29,6 +31,7 @@ use Rattle.hexlines.specs.Answer.{settingIn, numberOf, countOf, straight
 abbrev lines : List (List ℕ)
 lines =
     (48 ∷ 48 ∷ 48 ∷ 48 ∷ 48 ∷ 48 ∷ 48 ∷ 48 ∷ 48 ∷ 49 ∷ 48 ∷ 48 ∷ 48 ∷ 49 ∷ 48 ∷ 48 ∷ 48 ∷ 48 ∷ 48 ∷ 48 ∷ 48 ∷ 48 ∷ 56 ∷ 48 ∷ [])
+    ∷ (48 ∷ 48 ∷ 48 ∷ 51 ∷ 69 ∷ 56 ∷ 48 ∷ 48 ∷ 48 ∷ 51 ∷ 48 ∷ 48 ∷ 48 ∷ 50 ∷ 48 ∷ 48 ∷ 48 ∷ 50 ∷ 48 ∷ 48 ∷ 48 ∷ 48 ∷ 48 ∷ 48 ∷ 49 ∷ 48 ∷ 50 ∷ 48 ∷ 51 ∷ 48 ∷ 52 ∷ 48 ∷ 70 ∷ 70 ∷ [])
     ∷ ([])
     ∷ (48 ∷ 48 ∷ 48 ∷ 48 ∷ 48 ∷ 48 ∷ 48 ∷ 48 ∷ 48 ∷ 48 ∷ 48 ∷ 48 ∷ 48 ∷ 49 ∷ 48 ∷ 48 ∷ 48 ∷ 48 ∷ 48 ∷ 48 ∷ 48 ∷ 48 ∷ [])
     ∷ (48 ∷ 57 ∷ 48 ∷ 54 ∷ 65 ∷ 50 ∷ 48 ∷ 48 ∷ 48 ∷ 49 ∷ 48 ∷ 48 ∷ 48 ∷ 49 ∷ 48 ∷ 48 ∷ 48 ∷ 49 ∷ 48 ∷ 48 ∷ 48 ∷ 48 ∷ 56 ∷ 48 ∷ [])
@@ -41,6 +44,7 @@ lines =
 abbrev answers : List (List ℕ)
 answers =
     (48 ∷ 48 ∷ 48 ∷ 48 ∷ 48 ∷ 48 ∷ 48 ∷ 48 ∷ 48 ∷ 49 ∷ 48 ∷ 48 ∷ 48 ∷ 49 ∷ 48 ∷ 48 ∷ 48 ∷ 48 ∷ 52 ∷ 48 ∷ 48 ∷ 48 ∷ 10 ∷ [])
+    ∷ (48 ∷ 48 ∷ 48 ∷ 48 ∷ 48 ∷ 52 ∷ 48 ∷ 48 ∷ 48 ∷ 51 ∷ 48 ∷ 48 ∷ 48 ∷ 50 ∷ 48 ∷ 48 ∷ 48 ∷ 48 ∷ 49 ∷ 55 ∷ 69 ∷ 65 ∷ 48 ∷ 48 ∷ 48 ∷ 48 ∷ 49 ∷ 68 ∷ 67 ∷ 67 ∷ 48 ∷ 48 ∷ 48 ∷ 48 ∷ 49 ∷ 48 ∷ 48 ∷ 48 ∷ 48 ∷ 48 ∷ 48 ∷ 48 ∷ 48 ∷ 57 ∷ 66 ∷ 65 ∷ 48 ∷ 48 ∷ 48 ∷ 48 ∷ 51 ∷ 50 ∷ 52 ∷ 66 ∷ 48 ∷ 48 ∷ 48 ∷ 48 ∷ 52 ∷ 68 ∷ 67 ∷ 53 ∷ 10 ∷ [])
     ∷ (48 ∷ 57 ∷ 48 ∷ 48 ∷ 48 ∷ 48 ∷ 48 ∷ 48 ∷ 48 ∷ 48 ∷ 10 ∷ [])
     ∷ (48 ∷ 49 ∷ 48 ∷ 48 ∷ 48 ∷ 48 ∷ 48 ∷ 48 ∷ 48 ∷ 48 ∷ 10 ∷ [])
     ∷ (48 ∷ 51 ∷ 48 ∷ 48 ∷ 48 ∷ 48 ∷ 48 ∷ 48 ∷ 48 ∷ 48 ∷ 10 ∷ [])

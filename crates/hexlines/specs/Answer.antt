@@ -1,8 +1,9 @@
 -- The answer to a line: 9 alone; else the lowest of 1, 3, 4 and 5 that applies, with the step in its numeric place; else the picture
 -- straightened. Each answer ends in a line feed. Assumes nothing.
 use Prim.Native.Nat.{ℕ, zero, suc}
-use mathlib.Core.Bool.{cond}
+use mathlib.Core.Bool.{Bool, cond, _&&_}
 use mathlib.Core.List.{List, [], _∷_, _++_}
+use lib.Dec.{eqb}
 use lib.IntN.{ℤ, pos, negℤ}
 use lib.ListN.{length, getD}
 use Rattle.lists.specs.Tab.{cat}
@@ -11,10 +12,15 @@ use Rattle.passes.specs.Picture.{shear, straighten}
 use Rattle.passes.specs.Count.{count}
 use Rattle.settings.specs.declared.Setting.{Setting}
 use Rattle.refusals.specs.Tests.{badSize, badKernel}
-use Rattle.steps.specs.Step.{beyond, S}
+use Rattle.steps.specs.Step.{beyond, S, changeOf}
+use Rattle.steps.specs.declared.Change.{Change}
 use Rattle.pictures.specs.Judge.{badCentre}
 use Rattle.digits.specs.Digit.{hexDigits, word32}
 use Rattle.hexlines.specs.Line.{kernelIn, stepIn, widthIn, heightIn, cxIn, cyIn, wellFormed, samplesIn}
+
+-- a setting of the line's kernel and centre, changed by its step: number 4 where the step is beyond its range
+unfoldable pub changeIn : List ℕ → Change
+changeIn line = changeOf (record { kernel = kernelIn line; cx = cxIn line; cy = cyIn line; a = pos 0; b = pos 0 }) (stepIn line)
 
 -- the setting that a line names: step t sets A = -t and B = S(t)
 unfoldable pub settingIn : List ℕ → Setting
@@ -59,7 +65,6 @@ judgedText (suc n) line = refusalText (suc n) 0 0
 unfoldable pub answerOf : List ℕ → List ℕ
 answerOf line = cond (wellFormed line) (judgedText (numberOf line) line) (refusalText 9 0 0)
 
--- what the straightener is asked: a step beyond its range is handed on as a shear beyond its own, so that it judges 4 after 1 and 3 and before 5
-unfoldable pub askedOf : List ℕ → Setting
-askedOf line =
-    cond (beyond (stepIn line)) (record { kernel = kernelIn line; cx = cxIn line; cy = cyIn line; a = pos 4097; b = pos 0 }) (settingIn line)
+-- a line that no number applies to
+unfoldable pub isAccepted : List ℕ → Bool
+isAccepted line = wellFormed line && eqb (numberOf line) 0

@@ -6,11 +6,14 @@ ghost use lib.IntN.{pos};
 ghost use lib.ListN.{length};
 ghost use Rattle.lists.specs.Tab.{tab};
 ghost use Rattle.digits.specs.Digit.{isDigit, allDigits, digitValue, placesOf};
-ghost use Rattle.hexlines.specs.Line.{fieldAt, widthIn, heightIn, wellFormed, sampleAt};
-ghost use Rattle.hexlines.specs.Answer.{refusalText, acceptedText, judgedText, numberOf, answerOf, askedOf};
+ghost use Rattle.pictures.specs.Judge.{badCentre};
+ghost use Rattle.hexlines.specs.Line.{fieldAt, wellFormed, sampleAt};
+ghost use Rattle.hexlines.specs.Answer.{refusalText, acceptedText, changeIn};
 ghost use Rattle.hexlines.specs.Room.{Fitted, Front, pieceAt, headPlaces, samplePlaces, closed};
+ghost use Rattle.hexlines.specs.Answered.{lowest, Accepted, Straightened, Answered, LineAnswered};
 use pictures::Outcome;
 use settings::Setting;
+use steps::Change;
 
 // The field of four digits at a place.
 fn field(line: &[u8], at: usize) -> usize
@@ -38,16 +41,16 @@ fn well_formed(line: &[u8]) -> bool
     line.len() == 22 + 2 * n
 }
 
-// The setting to ask the straightener for. A refused step becomes a shear out of range, so that 4 is judged after 1 and 3 and before 5.
-fn asked(line: &[u8]) -> Setting
+// A setting of the line's kernel and centre, changed by its step.
+fn change_in(line: &[u8]) -> Change
     requires { ⌜ (22 ≤ length (now line)) × (allDigits (now line) ≡ true) ⌝ }
-    ensures { λ r. ⌜ r ≡ askedOf (now (line .entry)) ⌝ }
+    ensures { λ r. ⌜ r ≡ changeIn (now (line .entry)) ⌝ }
 {
     let kernel = digits::hex_value(&line[..2]);
     let t = digits::signed_value(field(line, 2) as u32);
     let cx = field(line, 14);
     let cy = field(line, 18);
-    let change = steps::with_step(
+    steps::with_step(
         Setting {
             kernel,
             cx,
@@ -56,17 +59,34 @@ fn asked(line: &[u8]) -> Setting
             b: 0,
         },
         t,
-    );
-    if change.number == 0 {
-        return change.setting;
+    )
+}
+
+// Whether the centre is outside a picture of w by h.
+fn bad_centre(w: usize, h: usize, setting: Setting) -> bool
+    ensures { λ r. ⌜ r ≡ badCentre w h setting ⌝ }
+{
+    w <= setting.cx || h <= setting.cy
+}
+
+// The lowest of 1, 3, 4 and 5 that applies to a picture of w by h and its changed setting, 0 where none does.
+fn judge(w: usize, h: usize, change: Change) -> u32
+    ensures { λ r. ⌜ r ≡ lowest w h change ⌝ }
+{
+    let setting = change.setting;
+    if refusals::bad_size(w, h) {
+        return 1;
     }
-    Setting {
-        kernel,
-        cx,
-        cy,
-        a: 4097,
-        b: 0,
+    if bad_centre(w, h, setting) {
+        return 3;
     }
+    if 0 < change.number {
+        return 4;
+    }
+    if 2 < setting.kernel {
+        return 5;
+    }
+    0
 }
 
 // The sample of a grey of two digits.
@@ -156,22 +176,22 @@ fn accept(out: &mut [u8], count: u32, w: usize, h: usize, samples: &[i32]) -> us
     close(out, end)
 }
 
-// Answers a well-formed line of w times h greys, in lent places: as many for the picture and for its result, and 4,096 for work.
-fn respond_in(
+// Answers a line that no number applies to: picture and result have a place for each of its w·h greys, work 4,096. The straightener accepts
+// it, so its refusal is never written.
+fn straighten_in(
     line: &[u8],
     out: &mut [u8],
     w: usize,
     h: usize,
+    setting: Setting,
     picture: &mut [i32],
     result: &mut [i32],
     work: &mut [i32],
 ) -> usize
-    requires { ⌜ wellFormed (now line) ≡ true ⌝ }
-    requires { ⌜ (w ≡ widthIn (now line)) × (h ≡ heightIn (now line)) ⌝ }
+    requires { ⌜ Accepted (now line) w h setting ⌝ }
     requires { ⌜ (length (now picture) ≡ w * h) × (length (now result) ≡ w * h) × (length (now work) ≡ 4096) ⌝ }
-    ensures { λ r. ⌜ Fitted (judgedText (numberOf (now (line .entry))) (now (line .entry))) (now (out .entry)) (now (out .exit)) r ⌝ }
+    ensures { λ r. ⌜ Straightened (now (line .entry)) (now (out .entry)) (now (work .entry)) (now (out .exit)) (now (picture .exit)) (now (result .exit)) (now (work .exit)) r ⌝ }
 {
-    let setting = asked(line);
     read_greys(line, picture);
     let outcome = pictures::straighten(w, h, setting, picture, result, work);
     match outcome {
@@ -190,29 +210,70 @@ fn respond(
 ) -> usize
     requires { ⌜ wellFormed (now line) ≡ true ⌝ }
     requires { ⌜ (length (now picture) ≡ 4096) × (length (now result) ≡ 4096) × (length (now work) ≡ 4096) ⌝ }
-    ensures { λ r. ⌜ Fitted (judgedText (numberOf (now (line .entry))) (now (line .entry))) (now (out .entry)) (now (out .exit)) r ⌝ }
+    ensures { λ r. ⌜ Answered (now (line .entry)) (now (out .entry)) (now (picture .entry)) (now (result .entry)) (now (work .entry)) (now (out .exit)) (now (picture .exit)) (now (result .exit)) (now (work .exit)) r ⌝ }
 {
     let w = field(line, 6);
     let h = field(line, 10);
+    let change = change_in(line);
+    let number = judge(w, h, change);
+    if 0 < number {
+        return refuse(out, number, 0, 0);
+    }
     let n = w * h;
-    respond_in(line, out, w, h, &mut picture[..n], &mut result[..n], work)
+    let setting = change.setting;
+    straighten_in(
+        line,
+        out,
+        w,
+        h,
+        setting,
+        &mut picture[..n],
+        &mut result[..n],
+        work,
+    )
 }
 
-// Answers any line, which comes without its line feed: the answer is written to the front of out, with its line feed, and its length
-// handed back; where out is too short for it, nothing is written and 0 handed back. The longest answer has 32,783 bytes.
-// The three arrays are room for the work, and their contents before and afterwards do not matter.
-pub fn answer(
+// Answers any line, which comes without its line feed, in lent places: the answer is written to the front of out, with its line feed, and its
+// length handed back; where out is too short for it, nothing is written and 0 handed back. The longest answer has 32,783 bytes. An accepted
+// line leaves its samples, the picture straightened and 0 at the front of the three arrays; a refused one leaves them as they were.
+pub fn answer_in(
     line: &[u8],
     out: &mut [u8],
     picture: &mut [i32; 4096],
     result: &mut [i32; 4096],
     work: &mut [i32; 4096],
 ) -> usize
-    ensures { λ r. ⌜ Fitted (answerOf (now (line .entry))) (now (out .entry)) (now (out .exit)) r ⌝ }
+    ensures { λ r. ⌜ Answered (now (line .entry)) (now (out .entry)) (now (picture .entry)) (now (result .entry)) (now (work .entry)) (now (out .exit)) (now (picture .exit)) (now (result .exit)) (now (work .exit)) r ⌝ }
 {
     if well_formed(line) {
         respond(line, out, picture, result, work)
     } else {
         refuse(out, 9, 0, 0)
     }
+}
+
+// What the call for one line comes to: the bytes of its answer, or number 2 where out is too short for them.
+pub enum Written {
+    Bytes(usize),
+    Refused(u32),
+}
+
+// Room for the samples of one line, of its result, or for work.
+pub fn places() -> [i32; 4096] {
+    [0; 4096]
+}
+
+// The answer to any line, which comes without its line feed, to the front of out, with its line feed. An out under the places of the answer,
+// at most 32,783, is refused with 2 and stays as it was.
+pub fn answer(line: &[u8], out: &mut [u8]) -> Written
+    ensures { λ r. ⌜ LineAnswered (now (line .entry)) (now (out .entry)) (now (out .exit)) r ⌝ }
+{
+    let mut picture = places();
+    let mut result = places();
+    let mut work = places();
+    let bytes = answer_in(line, out, &mut picture, &mut result, &mut work);
+    if bytes == 0 {
+        return Written::Refused(2);
+    }
+    Written::Bytes(bytes)
 }

@@ -1,38 +1,41 @@
 -- `hexlines::answer` meets its contract.
-use mathlib.Core.Path.{sym, _∙_}
 use borrow.Author.Needs.{needs}
-use Rattle.hexlines.proofs.Judged.{answer-well, answer-ill}
+use Rattle.hexlines.proofs.Judged.{answered-short, answered-bytes}
 use Rattle.hexlines.proofs.answer.Statement.{statement}
 use Rattle.hexlines.proofs.answer.Tie as tie
 
-well-formed-requires : tie.Need-well-formed-requires
-well-formed-requires c κs = search needs
+places-requires : tie.Need-places-requires
+places-requires c κs = search needs
 
-respond-requires : tie.Need-respond-requires
-respond-requires c κs = let t = c .before .before .before .before in (sym (t .before .well-formed .ensures) ∙ t .if1 .taken, search needs)
+places-requires-2 : tie.Need-places-requires-2
+places-requires-2 c κs = search needs
 
-refuse-requires : tie.Need-refuse-requires
-refuse-requires c κs = search needs
+places-requires-3 : tie.Need-places-requires-3
+places-requires-3 c κs = search needs
+
+answer-in-requires : tie.Need-answer-in-requires
+answer-in-requires c κs = search needs
 
 same-length : tie.Need-same-length
 same-length c = search needs
 
 returns : tie.Need-returns
-returns c = let t = c .before .before .before .before .before .before .before in rw (answer-well _ (sym (t .before .well-formed .ensures) ∙ t .if1 .taken)) at (c .before .before .respond .ensures)
+returns c = answered-short _ _ _ _ (c .before .before .before .answer-in .ensures .text) (c .if1 .taken)
 
 same-length-2 : tie.Need-same-length-2
 same-length-2 c = search needs
 
 returns-2 : tie.Need-returns-2
-returns-2 c = let t = c .before .before .before .before in rw (answer-ill _ (sym (t .before .well-formed .ensures) ∙ t .if1 .left)) at (c .before .before .refuse .ensures)
+returns-2 c = answered-bytes _ _ _ _ (c .before .before .before .answer-in .ensures .text) (c .if1 .left)
 
 pub answer-spec : {M : Type 1} → statement M
 answer-spec =
     tie.close
     (tie.spec
-    well-formed-requires
-    respond-requires
-    refuse-requires
+    places-requires
+    places-requires-2
+    places-requires-3
+    answer-in-requires
     same-length
     returns
     same-length-2

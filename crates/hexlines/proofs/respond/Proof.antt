@@ -1,17 +1,37 @@
 -- `hexlines::respond` meets its contract.
-use Prim.Native.Nat.{_*_, _≤_}
-use mathlib.Core.Path.{sym}
+use Prim.Native.Nat.{ℕ, _*_, _≤_}
+use mathlib.Core.List.{List, _++_}
+use mathlib.Core.Path.{_≡_, refl, sym, ap, ap₂, _∙_}
 use native.Mathlib.Omega.{arith}
 use borrow.Author.Needs.{needs}
+use lib.ListN.{drop}
 use lib.Seq.{length-take-le}
-use Rattle.hexlines.proofs.Judged.{well, small}
+use Rattle.hexlines.specs.Answer.{numberOf}
+use Rattle.hexlines.specs.Line.{sizeIn}
+use Rattle.hexlines.proofs.Outcome.{number-is, change-setting}
+use Rattle.hexlines.proofs.Judged.{well, small, accepted-line, refused-line, answer-accepted, answer-refused}
 use Rattle.hexlines.proofs.respond.Statement.{statement}
 use Rattle.hexlines.proofs.respond.Tie as tie
 
-sized : (c : tie.After-field2) → c .before .field .result * c .field2 .result ≤ 4096
-sized c =
-    let s = c .before .before .before .before in
-    small (s .args .line .now) _ _ (s .pre .0) (c .before .field .ensures .0) (c .field2 .ensures .0) .1
+-- where the line is judged
+module _ (t : tie.After-judge) where
+  abbrev start : tie.Start
+  start = t .before .before .before .before .before .before
+
+  abbrev line : List ℕ
+  line = start .args .line .now
+
+  sized : t .before .before .before .field .result * t .before .before .field2 .result ≤ 4096
+  sized = small line _ _ (start .pre .0) (t .before .before .before .field .ensures .0) (t .before .before .field2 .ensures .0) .1
+
+  number : t .judge .result ≡ numberOf line
+  number = number-is line (t .before .change-in .ensures) (t .before .before .before .field .ensures .0) (t .before .before .field2 .ensures .0) (t .judge .ensures)
+
+  none : t .judge .result ≤ 0 → numberOf line ≡ 0
+  none h = let e = number in omega arith
+
+  whole : t .before .before .before .field .result * t .before .before .field2 .result ≡ sizeIn line
+  whole = ap₂ _*_ (t .before .before .before .field .ensures .0) (t .before .before .field2 .ensures .0)
 
 field-requires : tie.Need-field-requires
 field-requires c κs = let s = c .before .before in let f = well (s .args .line .now) (s .pre .0) in (omega arith, omega (arith, f .long), f .digits)
@@ -19,35 +39,62 @@ field-requires c κs = let s = c .before .before in let f = well (s .args .line 
 field-requires-2 : tie.Need-field-requires-2
 field-requires-2 c κs = let s = c .before .before .before in let f = well (s .args .line .now) (s .pre .0) in (omega arith, omega (arith, f .long), f .digits)
 
-mul-n : tie.Need-mul-n
-mul-n c = omega (arith, sized c)
+change-in-requires : tie.Need-change-in-requires
+change-in-requires c κs = let s = c .before .before .before .before in let f = well (s .args .line .now) (s .pre .0) in (f .long, f .digits)
 
-slice-relend-prefix-respond-in : tie.Need-slice-relend-prefix-respond-in
-slice-relend-prefix-respond-in c = omega (arith, sized (c .before))
+judge-requires : tie.Need-judge-requires
+judge-requires c κs = search needs
 
-slice-aggregate-respond-in : tie.Need-slice-aggregate-respond-in
-slice-aggregate-respond-in c = sym (length-take-le _ _ (omega (arith, sized (c .before .before))))
-
-slice-relend-prefix-respond-in-2 : tie.Need-slice-relend-prefix-respond-in-2
-slice-relend-prefix-respond-in-2 c = omega (arith, sized (c .before .before))
-
-slice-aggregate-respond-in-2 : tie.Need-slice-aggregate-respond-in-2
-slice-aggregate-respond-in-2 c = sym (length-take-le _ _ (omega (arith, sized (c .before .before .before))))
-
-respond-in-requires : tie.Need-respond-in-requires
-respond-in-requires c κs =
-    let f = c .before .before .before .before in
-    let s = f .before .before .before .before in
-    let n = sized f in (
-      s .pre .0,
-      (
-        (f .before .field .ensures .0, f .field2 .ensures .0),
-        (length-take-le _ _ (omega arith), length-take-le _ _ (omega arith), s .pre .1 .2),
-      ),
-    )
+refuse-requires : tie.Need-refuse-requires
+refuse-requires c κs = search needs
 
 same-length : tie.Need-same-length
 same-length c = search needs
+
+returns : tie.Need-returns
+returns c =
+    let t = c .before .before .before .before .before in
+    let e = number t in
+    let some = c .before .before .before .before .if1 .taken in
+    let no = refused-line (line t) (omega arith) in
+    record {
+      text = rw (e, answer-refused (line t) (start t .pre .0) (omega arith)) at (c .before .before .refuse .ensures);
+      samples = rw no refl;
+      straightened = rw no refl;
+      cleared = rw no refl;
+    }
+
+mul-n : tie.Need-mul-n
+mul-n c = omega (arith, sized (c .before))
+
+slice-relend-prefix-straighten-in : tie.Need-slice-relend-prefix-straighten-in
+slice-relend-prefix-straighten-in c = omega (arith, sized (c .before .before .before))
+
+slice-aggregate-straighten-in : tie.Need-slice-aggregate-straighten-in
+slice-aggregate-straighten-in c = sym (length-take-le _ _ (omega (arith, sized (c .before .before .before .before))))
+
+slice-relend-prefix-straighten-in-2 : tie.Need-slice-relend-prefix-straighten-in-2
+slice-relend-prefix-straighten-in-2 c = omega (arith, sized (c .before .before .before .before))
+
+slice-aggregate-straighten-in-2 : tie.Need-slice-aggregate-straighten-in-2
+slice-aggregate-straighten-in-2 c = sym (length-take-le _ _ (omega (arith, sized (c .before .before .before .before .before))))
+
+straighten-in-requires : tie.Need-straighten-in-requires
+straighten-in-requires c κs =
+    let b = c .before .before .before .before .before in
+    let t = b .before in
+    let s = start t in
+    let n = sized t in
+    let zero = none t (b .if1 .left) in (
+      record {
+        well = s .pre .0;
+        none = zero;
+        width = t .before .before .before .field .ensures .0;
+        height = t .before .before .field2 .ensures .0;
+        setting = change-setting (line t) (t .before .change-in .ensures) zero;
+      },
+      (length-take-le _ _ (omega arith), length-take-le _ _ (omega arith), s .pre .1 .2),
+    )
 
 same-length-2 : tie.Need-same-length-2
 same-length-2 c = search needs
@@ -58,8 +105,23 @@ same-length-3 c = search needs
 same-length-4 : tie.Need-same-length-4
 same-length-4 c = search needs
 
-returns : tie.Need-returns
-returns c = search needs
+same-length-5 : tie.Need-same-length-5
+same-length-5 c = search needs
+
+returns-2 : tie.Need-returns-2
+returns-2 c =
+    let b = c .before .before .before .before .before .before .before .before .before .before .before in
+    let t = b .before in
+    let s = start t in
+    let zero = none t (b .if1 .left) in
+    let yes = accepted-line (line t) (s .pre .0) zero in
+    let r = c .before .before .before .before .before .straighten-in .ensures in
+    record {
+      text = rw (answer-accepted (line t) (s .pre .0) zero) at (r .text);
+      samples = rw yes (ap₂ _++_ (r .samples) (ap (λ n. drop n (s .args .picture .now)) (whole t)));
+      straightened = rw yes (ap₂ _++_ (r .straightened) (ap (λ n. drop n (s .args .result .now)) (whole t)));
+      cleared = rw yes (r .cleared);
+    }
 
 pub respond-spec : {M : Type 1} → statement M
 respond-spec =
@@ -67,14 +129,19 @@ respond-spec =
     (tie.spec
     field-requires
     field-requires-2
-    mul-n
-    slice-relend-prefix-respond-in
-    slice-aggregate-respond-in
-    slice-relend-prefix-respond-in-2
-    slice-aggregate-respond-in-2
-    respond-in-requires
+    change-in-requires
+    judge-requires
+    refuse-requires
     same-length
+    returns
+    mul-n
+    slice-relend-prefix-straighten-in
+    slice-aggregate-straighten-in
+    slice-relend-prefix-straighten-in-2
+    slice-aggregate-straighten-in-2
+    straighten-in-requires
     same-length-2
     same-length-3
     same-length-4
-    returns)
+    same-length-5
+    returns-2)
