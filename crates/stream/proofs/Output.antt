@@ -1,13 +1,14 @@
 -- How parts of an input come together: lines split over blocks give the same output; and the answers to one line. Assumes nothing.
-use Prim.Native.Nat.{ℕ, suc, _+_, _≤_, _<_}
+use Prim.Native.Nat.{ℕ, suc, _+_, _*_, _≤_, _<_}
 use mathlib.Core.Bool.{Bool, true, false, cond}
 use mathlib.Core.List.{List, [], _∷_, _++_, append-assoc, append-nil}
 use mathlib.Core.Path.{_≡_, refl, sym, _∙_}
 use native.Mathlib.Numerals.{add-one}
 use native.Mathlib.Omega.{arith}
-use lib.ListN.{length, take, drop, getD, drop-of-length-le}
+use lib.ListN.{length, take, drop, getD, drop-of-length-le, length-append}
 use lib.Seq.{drop-cons}
 use Rattle.hexlines.specs.Answer.{answerOf}
+use Rattle.hexlines.proofs.Judged.{answer-few, answer-short}
 use Rattle.stream.specs.Output.{inLine, lineLength, answers, rest, lastAnswer, outputOf}
 
 pub answers-append : (held xs ys : List ℕ) → answers held (xs ++ ys) ≡ answers held xs ++ answers (rest held xs) ys
@@ -32,6 +33,29 @@ rest-append held (b ∷ bs) ys = by (inLine b) (rest-append (held ++ (b ∷ []))
         → cond t (rest (held ++ (b ∷ [])) (bs ++ ys)) (rest [] (bs ++ ys)) ≡ rest (cond t (rest (held ++ (b ∷ [])) bs) (rest [] bs)) ys
     by true e f = e
     by false e f = f
+
+-- ---- room for answers
+-- eleven bytes for each byte of the lines that end, and of what is held of the first
+answers-few : (held s : List ℕ) → length (answers held s) ≤ 11 * (length held + length s)
+unfolding answers
+answers-few held [] = omega arith
+answers-few held (b ∷ bs) = by (inLine b) (simp length-append at (answers-few (held ++ (b ∷ [])) bs)) (answers-few [] bs)
+  where
+    by : (t : Bool) → length (answers (held ++ (b ∷ [])) bs) ≤ 11 * (length held + 1 + length bs) → length (answers [] bs) ≤ 11 * (0 + length bs)
+        → length (cond t (answers (held ++ (b ∷ [])) bs) (answerOf held ++ answers [] bs)) ≤ 11 * (length held + suc (length bs))
+    by true e f = omega arith
+    by false e f = simp length-append (omega (arith, answer-few held))
+
+-- or the longest answer for the first, however much of it was held
+pub answers-room : (held s : List ℕ) → length (answers held s) ≤ 32783 + 11 * length s
+unfolding answers
+answers-room held [] = omega arith
+answers-room held (b ∷ bs) = by (inLine b) (answers-room (held ++ (b ∷ [])) bs) (answers-few [] bs)
+  where
+    by : (t : Bool) → length (answers (held ++ (b ∷ [])) bs) ≤ 32783 + 11 * length bs → length (answers [] bs) ≤ 11 * (0 + length bs)
+        → length (cond t (answers (held ++ (b ∷ [])) bs) (answerOf held ++ answers [] bs)) ≤ 32783 + 11 * suc (length bs)
+    by true e f = omega arith
+    by false e f = simp length-append (omega (arith, answer-short held))
 
 -- ---- the program over blocks
 unfoldable pub joined : List (List ℕ) → List ℕ

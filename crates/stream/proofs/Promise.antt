@@ -1,65 +1,49 @@
 -- How each step keeps its promise. Assumes nothing.
-use Prim.Native.Nat.{ℕ, suc, _+_, _-_, _≤_, _<_}
-use mathlib.Core.Bool.{Bool, true, false, cond}
-use mathlib.Core.List.{List, [], _∷_, _++_, append-nil}
-use mathlib.Core.Path.{_≡_, refl, sym, ap, ap₂, _∙_}
+use Prim.Native.Nat.{ℕ, suc, _+_, _-_, _*_, _≤_, _<_}
+use mathlib.Core.List.{List, [], _∷_, _++_, append-nil, append-assoc}
+use mathlib.Core.Path.{_≡_, refl, sym, ap, _∙_}
 use native.Mathlib.Numerals.{add-one}
 use native.Mathlib.Omega.{arith}
-use borrow.Author.Tests.{le-leb, leb-true}
+use borrow.Author.Tests.{le-leb}
 use borrow.Rule.Slice.PartMut.{putMid}
-use lib.Dec.{leb}
-use lib.ListN.{length, take, drop, length-take, length-drop}
-use lib.Seq.{take-all, take-take, take-append-seam, length-take-le, take-append-add, take-append-le, take-add}
+use lib.ListN.{length, take, drop, length-append, length-take, length-drop, drop-of-length-le, take-append-drop}
+use lib.Seq.{take-all, take-take, take-at, drop-at, drop-drop, take-add, length-take-le}
 use Rattle.hexlines.proofs.Judged.{answer-short}
 use Rattle.hexlines.specs.Answer.{answerOf}
 use Rattle.hexlines.specs.Room.{Fitted, fitted, fittedLength}
 use Rattle.stream.specs.Output.{lineLength, answers, rest, lastAnswer}
-use Rattle.stream.specs.Steps.{cut, Held, Finished, Last, Read, Stepped, Pumped, Served}
-use Rattle.stream.specs.declared.Moved.{Moved}
-use Rattle.stream.proofs.Cut.{answer-cut, held-append, held-nothing}
-use Rattle.stream.proofs.Output.{answers-append, rest-append, no-end, line-end}
+use Rattle.stream.specs.Steps.{cut, Held, Stands, Finished, Read, Stepped, Last}
+use Rattle.stream.specs.declared.Advance.{Advance}
+use Rattle.stream.proofs.Cut.{answer-cut, held-append, held-nothing, held-itself, stands-take, cut-short}
+use Rattle.stream.proofs.Output.{answers-append, answers-room, rest-append, no-end, line-end}
+
+-- nothing stands
+pub stands-none : (before : List ℕ) → Stands [] before before 0
+stands-none before = record { front = refl; bytes = refl }
 
 -- an answer that has room is written whole
-written : (line out out′ : List ℕ) (r : ℕ) → 32783 ≤ length out → Fitted (answerOf line) out out′ r → (r ≤ length out) × (take r out′ ≡ answerOf line)
+written : (line : List ℕ) {out out′ : List ℕ} {r : ℕ} → 32783 ≤ length out → Fitted (answerOf line) out out′ r → Stands (answerOf line) out out′ r
 unfolding fitted fittedLength
-written line out out′ r room f =
-    let short = answer-short line in
-    let t = le-leb (length (answerOf line)) (length out) (omega arith) in
-    let h : out′ ≡ answerOf line ++ drop (length (answerOf line)) out = f .holds ∙ rw t refl in
-    let n : r ≡ length (answerOf line) = f .wrote ∙ rw t refl in
-    (omega arith, rw (h, n) (take-append-seam (answerOf line) _))
+written line {out} room f =
+    let t = le-leb (length (answerOf line)) (length out) (omega (arith, answer-short line)) in
+    record { front = f .holds ∙ rw t refl; bytes = f .wrote ∙ rw t refl }
 
 -- ---- a line that ends
 -- of which nothing was held
-pub finished-here : (s carry out out′ : List ℕ) (used r : ℕ) → used ≡ 0 → Fitted (answerOf s) out out′ r → Finished s (take used carry) out out′ r
-finished-here s carry out out′ used r e f = λ held k. rw (held-nothing held (rw e at k)) f
+pub finished-here : (s carry out out′ : List ℕ) (used r : ℕ) → used ≡ 0 → 32783 ≤ length out → Fitted (answerOf s) out out′ r
+    → Finished s (take used carry) out out′ r
+finished-here s carry out out′ used r e room f = λ held k. rw (held-nothing held (rw e at k)) (written s room f)
 
 -- whose beginning was held
-pub finished-held : (s kept all out out′ : List ℕ) (r : ℕ) → all ≡ cut (kept ++ s) → Fitted (answerOf all) out out′ r → Finished s kept out out′ r
-finished-held s kept all out out′ r e f =
-    λ held k. rw (ap answerOf (e ∙ held-append kept held s k) ∙ answer-cut (held ++ s)) at f
+pub finished-held : (s kept all out out′ : List ℕ) (r : ℕ) → all ≡ cut (kept ++ s) → 32783 ≤ length out → Fitted (answerOf all) out out′ r
+    → Finished s kept out out′ r
+finished-held s kept all out out′ r e room f =
+    λ held k. rw (ap answerOf (e ∙ held-append kept held s k) ∙ answer-cut (held ++ s)) at (written all room f)
 
--- the end of the input
-held-itself : (carry : List ℕ) (used : ℕ) → used ≤ 8215 → Held (take used carry) (take used carry)
-unfolding cut
-held-itself carry used h = sym (take-all 8215 (take used carry) (simp length-take (omega arith)))
-
-fitted-room : (text d after : List ℕ) (r : ℕ) → Fitted text d after r → r ≤ length d
-unfolding fittedLength
-fitted-room text d after r f = by (leb (length text) (length d)) refl (f .wrote)
-  where
-    by : (t : Bool) → leb (length text) (length d) ≡ t → r ≡ cond t (length text) 0 → r ≤ length d
-    by true e k = let h = leb-true (length text) (length d) e in omega arith
-    by false e k = omega arith
-
+-- ---- the end of the input
 pub last-none : (carry out : List ℕ) (used : ℕ) → used ≡ 0 → Last (take used carry) out out 0
-unfolding lastAnswer fitted fittedLength
-last-none carry out used e =
-    record {
-      room = omega arith;
-      writes = λ held k.
-          rw (held-nothing held (rw e at k)) (record { holds = rw (le-leb 0 (length out) (omega arith)) refl; wrote = rw (le-leb 0 (length out) (omega arith)) refl });
-    }
+unfolding lastAnswer
+last-none carry out used e = record { writes = λ held k. rw (held-nothing held (rw e at k)) (stands-none out) }
 
 last-of : (held : List ℕ) → 0 < length held → lastAnswer held ≡ answerOf held
 unfolding lastAnswer
@@ -70,115 +54,101 @@ held-some : (held kept : List ℕ) → Held kept held → 0 < length kept → 0 
 unfolding cut
 held-some held kept q h = omega (arith, ap length q, length-take 8215 held)
 
-pub last-held : (carry out out′ : List ℕ) (used r : ℕ) → used ≤ 8215 → 0 < length (take used carry)
-    → Finished [] (take used carry) out out′ r → Last (take used carry) out out′ r
-last-held carry out out′ used r l h f =
-    record {
-      room = fitted-room _ out out′ r (f (take used carry) (held-itself carry used l));
-      writes = λ held k. rw (last-of held (held-some held (take used carry) k h), ← append-nil held) (f held k);
-    }
+pub last-held : (kept out out′ : List ℕ) (r : ℕ) → 0 < length kept → Finished [] kept out out′ r → Last kept out out′ r
+last-held kept out out′ r h f =
+    record { writes = λ held k. rw (last-of held (held-some held kept k h), ← append-nil held) (f held k) }
 
 -- ---- one step
 -- no line ends
-pub step-held : (s carry carry′ out : List ℕ) (used n u : ℕ) → n ≡ lineLength s → n ≡ length s → u ≤ 8215
-    → take u carry′ ≡ cut (take used carry ++ s) → Stepped s carry carry′ used out out (record { taken = n; used = u; wrote = 0 })
-step-held s carry carry′ out used n u e l h k =
+pub step-held : (s carry carry′ out : List ℕ) (used n u : ℕ) → n ≡ lineLength s → n ≡ length s
+    → Stands (cut (take used carry ++ s)) carry carry′ u → Stepped s carry carry′ used out out (record { taken = n; used = u; wrote = 0 })
+step-held s carry carry′ out used n u e l st =
     let all : take n s ≡ s = take-all n s (omega arith) in
     let none : (held : List ℕ) → (answers held s ≡ []) × (rest held s ≡ held ++ s) = λ held. no-end held s (omega arith) in
     record {
       forward = omega arith;
-      room = omega arith;
+      unheld = λ h. absurd (omega arith);
       reads = record {
-        writes = λ held q. rw all (sym (none held .0));
-        holds = λ held q. rw all (k ∙ held-append (take used carry) held s q ∙ ap cut (sym (none held .1)));
+        writes = λ held q. rw (all, none held .0) (stands-none out);
+        holds = λ held q. rw (all, none held .1) (rw (held-append (take used carry) held s q) at st);
       };
     }
 
 -- a line ends
-pub step-answered : (s carry carry′ out out′ : List ℕ) (used n r : ℕ) → n ≡ lineLength s → n < length s → used ≤ 8215 → 32783 ≤ length out
-    → Finished (take n s) (take used carry) out out′ r → Stepped s carry carry′ used out out′ (record { taken = n + 1; used = 0; wrote = r })
-step-answered s carry carry′ out out′ used n r e l h room f =
+pub step-answered : (s carry out out′ : List ℕ) (used n r : ℕ) → n ≡ lineLength s → n < length s
+    → Finished (take n s) (take used carry) out out′ r → Stepped s carry carry used out out′ (record { taken = n + 1; used = 0; wrote = r })
+step-answered s carry out out′ used n r e l f =
     let line : (held : List ℕ) → (answers held (take (suc (lineLength s)) s) ≡ answerOf (held ++ take (lineLength s) s)) × (rest held (take (suc (lineLength s)) s) ≡ []) = λ held. line-end held s (omega arith) in
     record {
       forward = omega arith;
-      room = (omega arith, written (take used carry ++ take n s) out out′ r room (f (take used carry) (held-itself carry used h)) .0);
+      unheld = λ h. refl;
       reads = record {
-        writes = λ held q. written (held ++ take n s) out out′ r room (f held q) .1 ∙ rw (add-one, e) (sym (line held .0));
-        holds = λ held q. rw (add-one, e, line held .1) (unfold cut in refl);
+        writes = λ held q. rw (add-one, e, line held .0) (rw e at (f held q));
+        holds = λ held q. rw (add-one, e, line held .1) (unfold cut in stands-none carry);
       };
     }
 
 -- ---- steps one after the other
-pub read-none : (s carry out : List ℕ) (used : ℕ) → Read s carry carry used out 0 used 0
-read-none s carry out used = record { writes = λ held k. unfold answers in refl; holds = λ held k. unfold rest in k }
+pub read-none : (s carry out : List ℕ) (used : ℕ) → used ≤ 8215 → length carry ≡ 8215 → Read (take 0 s) carry carry used used out out 0
+read-none s carry out used h l = record { writes = λ held k. unfold answers in stands-none out; holds = λ held k. unfold rest in kept held k }
+  where
+    kept : (held : List ℕ) → Held (take used carry) held → Stands (cut held) carry carry used
+    kept held k =
+        let n : length (take used carry) ≡ used = length-take-le used carry (omega arith) in
+        record { front = rw (← k, n) (sym (take-append-drop used carry)); bytes = sym (rw (← k) n) }
 
-read-more : (s carry carry1 carry2 out last : List ℕ) (used used1 at wrote n : ℕ) (r : Moved)
-    → wrote ≤ length out → length last ≡ n → r .wrote ≤ n
-    → Read s carry carry1 used out at used1 wrote
-    → Read (drop at s) carry1 carry2 used1 last (r .taken) (r .used) (r .wrote)
-    → Read s carry carry2 used (putMid wrote n out last) (at + r .taken) (r .used) (wrote + r .wrote)
-read-more s carry carry1 carry2 out last used used1 at wrote n r h l k done next =
-    let p : length (take wrote out) ≡ wrote = length-take-le wrote out h in
-    let tail = last ++ drop n (drop wrote out) in
-    let both : take (wrote + r .wrote) (take wrote out ++ tail) ≡ take wrote out ++ take (r .wrote) last =
-    ap (λ (m : ℕ). take (m + r .wrote) (take wrote out ++ tail)) (sym p) ∙ take-append-add (take wrote out) tail (r .wrote)
-    ∙ ap (λ (x : List ℕ). take wrote out ++ x) (take-append-le (r .wrote) last (drop n (drop wrote out)) (omega arith)) in
-    let split : take (at + r .taken) s ≡ take at s ++ take (r .taken) (drop at s) = take-add at (r .taken) s in
+-- two texts, the second in the part of the buffer behind the first
+stands-more : (a b before after last : List ℕ) (wrote n r : ℕ) → Stands a before after wrote → n ≡ length after - wrote
+    → Stands b (drop wrote after) last r → Stands (a ++ b) before (putMid wrote n after last) (wrote + r)
+stands-more a b before after last wrote n r p e q =
+    let behind : drop wrote after ≡ drop (length a) before = rw (p .front, p .bytes) (drop-at a (drop (length a) before) (length a) refl) in
+    let none : drop n (drop wrote after) ≡ [] = drop-of-length-le (drop wrote after) {i = n} (omega (arith, length-drop wrote after)) in
     record {
-      writes = λ held q. both ∙ ap₂ (λ (x y : List ℕ). x ++ y) (done .writes held q) (next .writes (rest held (take at s)) (done .holds held q))
-          ∙ sym (rw split (answers-append held (take at s) (take (r .taken) (drop at s))));
-      holds = λ held q. next .holds (rest held (take at s)) (done .holds held q)
-          ∙ ap cut (sym (rw split (rest-append held (take at s) (take (r .taken) (drop at s)))));
+      front = rw (stands-take p, none, append-nil, q .front, behind, drop-drop (length b) (length a) before, length-append a b) (sym (append-assoc a b _));
+      bytes = rw (p .bytes, q .bytes) (sym (length-append a b));
     }
 
--- a turn of the loop of `lines`, at the parts of s and out that are lent to `step`
-pub record Turned (s carry carry2 : List ℕ) (used : ℕ) (out last : List ℕ) (at wrote : ℕ) (r : Moved) : Type 0 where
-  pub forward : (at + r .taken ≤ length s) × (0 < r .taken)
-  pub room : (r .used ≤ 8215) × (wrote + r .wrote ≤ length out)
-  pub reads : Read s carry carry2 used (putMid wrote (length out - wrote) out last) (at + r .taken) (r .used) (wrote + r .wrote)
+-- a step after what the loop has done, at the parts of s and out that are lent to it; nothing is held yet
+module _ (s carry carry1 carry2 out out1 last : List ℕ) (used used1 at wrote n : ℕ) (r : Advance) (h : at < n) (l : n ≤ length s) (same : carry1 ≡ carry)
+    (done : Read (take at s) carry carry1 used used1 out out1 wrote)
+    (st : Stepped (take (n - at) (drop at s)) carry1 carry2 used1 (take (length out1 - wrote) (drop wrote out1)) last r) where
+  part : length (take (n - at) (drop at s)) ≡ n - at
+  part = simp (length-take, length-drop) (omega arith)
 
-pub turned : (s carry carry1 carry2 out last : List ℕ) (used used1 at wrote : ℕ) (r : Moved) → at < length s → wrote ≤ length out
-    → Read s carry carry1 used out at used1 wrote
-    → Stepped (take (length s - at) (drop at s)) carry1 carry2 used1 (take (length out - wrote) (drop wrote out)) last r
-    → length last ≡ length (take (length out - wrote) (drop wrote out))
-    → Turned s carry carry2 used out last at wrote r
-turned s carry carry1 carry2 out last used used1 at wrote r h k done st l =
-    let ls : length (drop at s) ≡ length s - at = length-drop at s in
-    let lo : length (drop wrote out) ≡ length out - wrote = length-drop wrote out in
-    let es : take (length s - at) (drop at s) ≡ drop at s = take-all (length s - at) (drop at s) (omega arith) in
-    let eo : take (length out - wrote) (drop wrote out) ≡ drop wrote out = take-all (length out - wrote) (drop wrote out) (omega arith) in
-    let st′ : Stepped (drop at s) carry1 carry2 used1 (drop wrote out) last r = rw (es, eo) at st in
-    let l′ : length last ≡ length out - wrote = l ∙ ap length eo ∙ lo in
-    let (t, p) = st′ .forward in
-    let (u, w) = st′ .room in
-    let q : 0 < r .taken = p (omega arith) in
-    record {
-      forward = omega arith;
-      room = omega arith;
-      reads = read-more s carry carry1 carry2 out last used used1 at wrote (length out - wrote) r k l′ (omega arith) done (st′ .reads);
-    }
+  pub step-forward : (at + r .taken ≤ n) × (0 < r .taken)
+  step-forward = let p = part in let q = st .forward .1 (omega arith) in omega (arith, st .forward .0)
 
--- the same of any number of held bytes, of which 8,215 count
-pub pumped-least : (s carry carry′ out out′ : List ℕ) (used n : ℕ) (r : Moved) → take n carry ≡ take used carry
-    → Pumped s carry carry′ n out out′ r → Pumped s carry carry′ used out out′ r
-pumped-least s carry carry′ out out′ used n r e p =
-    record {
-      forward = p .forward;
-      room = p .room;
-      reads = record { writes = λ held q. p .reads .writes held (e ∙ q); holds = λ held q. p .reads .holds held (e ∙ q) };
-    }
+  -- the part of s that the step takes
+  taken : take (at + r .taken) s ≡ take at s ++ take (r .taken) (take (n - at) (drop at s))
+  taken =
+      let p = part in
+      take-add at (r .taken) s ∙ ap (λ (x : List ℕ). take at s ++ x) (sym (take-take (r .taken) (n - at) (drop at s) (omega (arith, st .forward .0))))
 
--- ---- calls of `pump` one after the other
-pub served-none : (s carry : List ℕ) (used : ℕ) → Served (take 0 s) carry carry used used
-served-none s carry used = record { holds = λ held k. unfold rest in k }
+  rest-out : take (length out1 - wrote) (drop wrote out1) ≡ drop wrote out1
+  rest-out = take-all (length out1 - wrote) (drop wrote out1) (omega (arith, length-drop wrote out1))
 
-pub served-more : (s carry carry1 carry2 out out2 : List ℕ) (used used1 at n : ℕ) (r : Moved) → at ≤ n → n ≤ length s
-    → Served (take at s) carry carry1 used used1
-    → Pumped (take (n - at) (drop at s)) carry1 carry2 used1 out out2 r → Served (take (at + r .taken) s) carry carry2 used (r .used)
-served-more s carry carry1 carry2 out out2 used used1 at n r h k so p =
-    let l : length (take (n - at) (drop at s)) ≡ n - at = simp (length-take, length-drop) (omega arith) in
-    let t : take (r .taken) (take (n - at) (drop at s)) ≡ take (r .taken) (drop at s) = take-take (r .taken) (n - at) (drop at s) (omega (arith, p .forward .0)) in
-    record {
-      holds = λ held q. (rw t at (p .reads .holds (rest held (take at s)) (so .holds held q)))
-          ∙ ap cut (sym (rw (take-add at (r .taken) s) (rest-append held (take at s) (take (r .taken) (drop at s)))));
-    }
+  pub step-more : Read (take (at + r .taken) s) carry carry2 used (r .used) out (putMid wrote (length out1 - wrote) out1 last) (wrote + r .wrote)
+  step-more =
+      record {
+        writes = λ held q.
+            rw (taken, answers-append held (take at s) (take (r .taken) (take (n - at) (drop at s))))
+            (stands-more _ _ out out1 last wrote (length out1 - wrote) (r .wrote) (done .writes held q) refl
+            (rw rest-out at (st .reads .writes (rest held (take at s)) (stands-take (done .holds held q)))));
+        holds = λ held q.
+            rw (taken, rest-append held (take at s) (take (r .taken) (take (n - at) (drop at s))))
+            (rw same at (st .reads .holds (rest held (take at s)) (stands-take (done .holds held q))));
+      }
+
+-- how far a part of the input that is read has filled the answers' room, and what is held of it
+pub read-room : {s carry carry′ out out′ : List ℕ} {used used′ wrote : ℕ} → used ≤ 8215 → Read s carry carry′ used used′ out out′ wrote
+    → (wrote ≤ 32783 + 11 * length s) × (used′ ≤ 8215)
+read-room {s} {carry} {carry′} {out} {out′} {used} h r =
+    let k = held-itself carry used h in
+    let w = r .writes _ k .bytes in
+    let u = r .holds _ k .bytes in
+    (omega (arith, answers-room (take used carry) s), omega (arith, cut-short (rest (take used carry) s)))
+
+-- the same of any number of held bytes, of which 8,215 count, and of any number of bytes read
+pub read-least : {s s′ carry carry′ out out′ : List ℕ} {used n used′ wrote : ℕ} → s ≡ s′ → take n carry ≡ take used carry
+    → Read s carry carry′ n used′ out out′ wrote → Read s′ carry carry′ used used′ out out′ wrote
+read-least e k r = record { writes = λ held q. rw e at (r .writes held (k ∙ q)); holds = λ held q. rw e at (r .holds held (k ∙ q)) }

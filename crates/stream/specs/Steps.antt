@@ -1,12 +1,12 @@
 -- What the program holds of an unfinished line, and what each step promises. Assumes nothing.
-use Prim.Native.Nat.{ℕ, _+_, _≤_, _<_}
+use Prim.Native.Nat.{ℕ, _≤_, _<_}
 use mathlib.Core.Path.{_≡_}
 use mathlib.Core.List.{List, _++_}
 use lib.ListN.{length, take, drop}
 use Rattle.hexlines.specs.Answer.{answerOf}
-use Rattle.hexlines.specs.Room.{Fitted}
 use Rattle.stream.specs.Output.{answers, rest, lastAnswer}
-use Rattle.stream.specs.declared.Moved.{Moved}
+use Rattle.stream.specs.declared.Advance.{Advance}
+use Rattle.stream.specs.declared.Progress.{Progress}
 
 -- what is kept of a line: 8,215 bytes, one more than a well-formed line can have
 unfoldable pub cut : List ℕ → List ℕ
@@ -16,32 +16,31 @@ cut l = take 8215 l
 abbrev pub Held : List ℕ → List ℕ → Type 0
 Held kept held = kept ≡ cut held
 
--- the line that was held and ends with s is answered, where there is room
+-- a text of n bytes stands at the front of a lent buffer, which is otherwise as it was
+pub record Stands (text before after : List ℕ) (n : ℕ) : Type 0 where
+  pub front : after ≡ text ++ drop (length text) before
+  pub bytes : n ≡ length text
+
+-- the line that was held and ends with s is answered
 abbrev pub Finished : List ℕ → List ℕ → List ℕ → List ℕ → ℕ → Type 0
-Finished s kept out out′ r = (held : List ℕ) → Held kept held → Fitted (answerOf (held ++ s)) out out′ r
+Finished s kept out out′ r = (held : List ℕ) → Held kept held → Stands (answerOf (held ++ s)) out out′ r
 
--- a last line that lacks its line feed is answered, where there is room
-pub record Last (kept out out′ : List ℕ) (r : ℕ) : Type 0 where
-  pub room : r ≤ length out
-  pub writes : (held : List ℕ) → Held kept held → Fitted (lastAnswer held) out out′ r
-
--- the input is read so far as `taken`: the answers stand at the front of out′, and what is left is held
-pub record Read (s carry carry′ : List ℕ) (used : ℕ) (out′ : List ℕ) (taken used′ wrote : ℕ) : Type 0 where
-  pub writes : (held : List ℕ) → Held (take used carry) held → take wrote out′ ≡ answers held (take taken s)
-  pub holds : (held : List ℕ) → Held (take used carry) held → Held (take used′ carry′) (rest held (take taken s))
+-- a part s of the input is read, of whose first line the first `used` bytes of carry came before it: the answers to the lines that end in it
+-- stand in out′, and what is left of its last line in carry′
+pub record Read (s carry carry′ : List ℕ) (used used′ : ℕ) (out out′ : List ℕ) (wrote : ℕ) : Type 0 where
+  pub writes : (held : List ℕ) → Held (take used carry) held → Stands (answers held s) out out′ wrote
+  pub holds : (held : List ℕ) → Held (take used carry) held → Stands (cut (rest held s)) carry carry′ used′
 
 -- one line or a part of one
-pub record Stepped (s carry carry′ : List ℕ) (used : ℕ) (out out′ : List ℕ) (r : Moved) : Type 0 where
+pub record Stepped (s carry carry′ : List ℕ) (used : ℕ) (out out′ : List ℕ) (r : Advance) : Type 0 where
   pub forward : (r .taken ≤ length s) × (0 < length s → 0 < r .taken)
-  pub room : (r .used ≤ 8215) × (r .wrote ≤ length out)
-  pub reads : Read s carry carry′ used out′ (r .taken) (r .used) (r .wrote)
+  pub unheld : r .taken < length s → carry′ ≡ carry
+  pub reads : Read (take (r .taken) s) carry carry′ used (r .used) out out′ (r .wrote)
 
--- line after line, so long as there is room for an answer
-pub record Pumped (s carry carry′ : List ℕ) (used : ℕ) (out out′ : List ℕ) (r : Moved) : Type 0 where
-  pub forward : (r .taken ≤ length s) × (r .taken < length s → length out < r .wrote + 32783) × (r .taken ≡ 0 → r .wrote ≡ 0)
-  pub room : (r .used ≤ 8215) × (r .wrote ≤ length out)
-  pub reads : Read s carry carry′ used out′ (r .taken) (r .used) (r .wrote)
+-- a whole part of the input
+abbrev pub Turned : List ℕ → List ℕ → List ℕ → ℕ → List ℕ → List ℕ → Progress → Type 0
+Turned s carry carry′ used out out′ r = Read s carry carry′ used (r .used) out out′ (r .wrote)
 
--- a whole part of the input is read: what is left of it is held
-pub record Served (s carry carry′ : List ℕ) (used used′ : ℕ) : Type 0 where
-  pub holds : (held : List ℕ) → Held (take used carry) held → Held (take used′ carry′) (rest held s)
+-- a last line that lacks its line feed is answered
+pub record Last (kept out out′ : List ℕ) (r : ℕ) : Type 0 where
+  pub writes : (held : List ℕ) → Held kept held → Stands (lastAnswer held) out out′ r

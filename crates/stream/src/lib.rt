@@ -1,12 +1,14 @@
-// The line program as steps on slices: a part of the input goes in, what is held of an unfinished line and the answers come out.
+// The line program as turns on slices: a block of the input goes in, the answers to the lines that end in it and what is held of an
+// unfinished line come out.
+//     turn   a block read
+//     last   the end of the input
 ghost use mathlib.Core.Path.{_≡_};
-ghost use mathlib.Core.List.{List, _++_};
-ghost use Prim.Native.Nat.{ℕ, _+_, _≤_, min};
+ghost use mathlib.Core.List.{_++_};
+ghost use Prim.Native.Nat.{_+_, _*_, _≤_, min};
 ghost use lib.ListN.{length, take};
 ghost use lib.Seq.{paste};
-ghost use Rattle.hexlines.specs.Room.{Fitted};
 ghost use Rattle.stream.specs.Output.{lineLength};
-ghost use Rattle.stream.specs.Steps.{cut, Finished, Last, Stepped, Pumped};
+ghost use Rattle.stream.specs.Steps.{cut, Stands, Finished, Stepped, Turned, Last};
 
 // The length of the line that s begins with, or of s where no line ends in it.
 fn line_length(s: &[u8]) -> usize
@@ -40,41 +42,59 @@ fn copy(source: &[u8], dest: &mut [u8], to: usize, n: usize)
     }
 }
 
+// Room for what is held of a line, one byte more than a well-formed one has.
+pub fn line_room() -> [u8; 8215]
+    ensures { λ r. ⌜ 8215 ≡ length r ⌝ }
+{
+    [0; 8215]
+}
+
 // Holds s behind the bytes held, as far as there is room, and hands back how many are held then.
 fn hold(carry: &mut [u8], used: usize, s: &[u8]) -> usize
     requires { ⌜ (used ≤ 8215) × (length (now carry) ≡ 8215) ⌝ }
-    ensures { λ r. ⌜ (r ≤ 8215) × (take r (now (carry .exit)) ≡ cut (take used (now (carry .entry)) ++ now (s .entry))) ⌝ }
+    ensures { λ r. ⌜ Stands (cut (take used (now (carry .entry)) ++ now (s .entry))) (now (carry .entry)) (now (carry .exit)) r ⌝ }
 {
     let n = least(s.len(), carry.len() - used);
     copy(s, carry, used, n);
     used + n
 }
 
-// Answers the line that was held and ends with s. Where nothing was held, s is answered where it stands.
+// The first `used` bytes of carry and s behind them, as far as there is room, to the front of line; hands back how many bytes that makes.
+fn join(line: &mut [u8], carry: &[u8], used: usize, s: &[u8]) -> usize
+    requires { ⌜ (used ≤ 8215) × (length (now carry) ≡ 8215) × (length (now line) ≡ 8215) ⌝ }
+    ensures { λ r. ⌜ (r ≤ 8215) × (take r (now (line .exit)) ≡ cut (take used (now (carry .entry)) ++ now (s .entry))) ⌝ }
+{
+    copy(carry, line, 0, used);
+    hold(line, used, s)
+}
+
+// Answers the line that was held and ends with s. Where nothing was held, s is answered where it stands; else the line is put together in
+// `line`, so that carry stays.
 fn finish(
     s: &[u8],
-    carry: &mut [u8],
+    carry: &[u8],
     used: usize,
+    line: &mut [u8],
     out: &mut [u8],
     picture: &mut [i32; 4096],
     result: &mut [i32; 4096],
     work: &mut [i32; 4096],
 ) -> usize
-    requires { ⌜ (used ≤ 8215) × (length (now carry) ≡ 8215) ⌝ }
+    requires { ⌜ (used ≤ 8215) × (length (now carry) ≡ 8215) × (length (now line) ≡ 8215) × (32783 ≤ length (now out)) ⌝ }
     ensures { λ r. ⌜ Finished (now (s .entry)) (take used (now (carry .entry))) (now (out .entry)) (now (out .exit)) r ⌝ }
 {
     if used == 0 {
-        return hexlines::answer(s, out, picture, result, work);
+        return hexlines::answer_in(s, out, picture, result, work);
     }
-    let held = hold(carry, used, s);
-    hexlines::answer(&carry[..held], out, picture, result, work)
+    let n = join(line, carry, used, s);
+    hexlines::answer_in(&line[..n], out, picture, result, work)
 }
 
 // How much of the input was taken, how many bytes are held, and how many were written.
-pub struct Moved {
-    pub taken: usize,
-    pub used: usize,
-    pub wrote: usize,
+struct Advance {
+    taken: usize,
+    used: usize,
+    wrote: usize,
 }
 
 // Reads s to the end of its first line, and answers that line; where none ends in s, holds s.
@@ -82,55 +102,63 @@ fn step(
     s: &[u8],
     carry: &mut [u8],
     used: usize,
+    line: &mut [u8],
     out: &mut [u8],
     picture: &mut [i32; 4096],
     result: &mut [i32; 4096],
     work: &mut [i32; 4096],
-) -> Moved
-    requires { ⌜ (used ≤ 8215) × (length (now carry) ≡ 8215) × (32783 ≤ length (now out)) ⌝ }
+) -> Advance
+    requires { ⌜ (used ≤ 8215) × (length (now carry) ≡ 8215) × (length (now line) ≡ 8215) × (32783 ≤ length (now out)) ⌝ }
     ensures { λ r. ⌜ Stepped (now (s .entry)) (now (carry .entry)) (now (carry .exit)) used (now (out .entry)) (now (out .exit)) r ⌝ }
 {
     let n = line_length(s);
     if n == s.len() {
         let held = hold(carry, used, s);
-        return Moved {
+        return Advance {
             taken: n,
             used: held,
             wrote: 0,
         };
     }
-    let wrote = finish(&s[..n], carry, used, out, picture, result, work);
-    Moved {
+    let wrote = finish(&s[..n], carry, used, line, out, picture, result, work);
+    Advance {
         taken: n + 1,
         used: 0,
         wrote,
     }
 }
 
-// Reads the lines of s one after the other, so long as there is room for one more answer.
+// How many bytes are held of an unfinished line, and how many were written.
+pub struct Progress {
+    pub used: usize,
+    pub wrote: usize,
+}
+
+// Reads the lines of the first n bytes of s one after the other. There is room for their answers: eleven bytes for each byte read, and twice
+// the longest answer.
 fn lines(
     s: &[u8],
+    n: usize,
     carry: &mut [u8],
     used: usize,
+    line: &mut [u8],
     out: &mut [u8],
     picture: &mut [i32; 4096],
     result: &mut [i32; 4096],
     work: &mut [i32; 4096],
-) -> Moved
-    requires { ⌜ (used ≤ 8215) × (length (now carry) ≡ 8215) ⌝ }
-    ensures { λ r. ⌜ Pumped (now (s .entry)) (now (carry .entry)) (now (carry .exit)) used (now (out .entry)) (now (out .exit)) r ⌝ }
+) -> Progress
+    requires { ⌜ (used ≤ 8215) × (length (now carry) ≡ 8215) × (length (now line) ≡ 8215) × (n ≤ length (now s)) × (65566 + 11 * n ≤ length (now out)) ⌝ }
+    ensures { λ r. ⌜ Turned (take n (now (s .entry))) (now (carry .entry)) (now (carry .exit)) used (now (out .entry)) (now (out .exit)) r ⌝ }
 {
     let mut at: usize = 0;
     let mut held = used;
     let mut wrote: usize = 0;
-    while at < s.len() {
-        if out.len() - wrote < 32783 {
-            break;
-        }
+    while at < n {
         let m = step(
-            &s[at..],
+            &s[at..n],
             carry,
             held,
+            line,
             &mut out[wrote..],
             picture,
             result,
@@ -140,43 +168,58 @@ fn lines(
         held = m.used;
         wrote += m.wrote;
     }
-    Moved {
-        taken: at,
-        used: held,
-        wrote,
-    }
+    Progress { used: held, wrote }
 }
 
-// Reads the lines of s, of which the first `used` bytes of carry are the beginning, so long as there is room for one more answer, 32,783
-// bytes: the answers are written to the front of out, and what is left of an unfinished line is held in carry. A line of more than
-// 8,214 bytes is 9 whatever follows, so no more than 8,215 bytes of it are held.
-pub fn pump(
-    s: &[u8],
+// A turn of the line program: the first n bytes of block are read, which go on from the line whose first `used` bytes are in carry. The
+// answers to the lines that end in them are written to the front of out, and what is left of the last line to the front of carry; both are
+// otherwise as they were. A line of more than 8,214 bytes is 9 whatever follows, so no more than 8,215 bytes of it are held.
+pub fn turn(
+    block: &[u8; 16384],
+    n: usize,
     carry: &mut [u8; 8215],
     used: usize,
-    out: &mut [u8],
-    picture: &mut [i32; 4096],
-    result: &mut [i32; 4096],
-    work: &mut [i32; 4096],
-) -> Moved
-    ensures { λ r. ⌜ Pumped (now (s .entry)) (now (carry .entry)) (now (carry .exit)) used (now (out .entry)) (now (out .exit)) r ⌝ }
+    out: &mut [u8; 262144],
+) -> Progress
+    ensures { λ r. ⌜ Turned (take n (now (block .entry))) (now (carry .entry)) (now (carry .exit)) used (now (out .entry)) (now (out .exit)) r ⌝ }
 {
-    lines(s, carry, least(used, 8215), out, picture, result, work)
+    let mut line = line_room();
+    let mut picture = hexlines::places();
+    let mut result = hexlines::places();
+    let mut work = hexlines::places();
+    lines(
+        block,
+        least(n, 16384),
+        carry,
+        least(used, 8215),
+        &mut line,
+        out,
+        &mut picture,
+        &mut result,
+        &mut work,
+    )
 }
 
-// Answers a last line that lacks its line feed, the first `used` bytes of carry, where there is room.
-pub fn finish_last(
-    carry: &mut [u8; 8215],
-    used: usize,
-    out: &mut [u8],
-    picture: &mut [i32; 4096],
-    result: &mut [i32; 4096],
-    work: &mut [i32; 4096],
-) -> usize
+// The end of the input: a last line that lacks its line feed, the first `used` bytes of carry, is answered at the front of out; no bytes are
+// no line. Hands back how many bytes the answer has.
+pub fn last(carry: &[u8; 8215], used: usize, out: &mut [u8; 262144]) -> usize
     ensures { λ r. ⌜ Last (take used (now (carry .entry))) (now (out .entry)) (now (out .exit)) r ⌝ }
 {
     if used == 0 {
         return 0;
     }
-    finish(b"", carry, least(used, 8215), out, picture, result, work)
+    let mut line = line_room();
+    let mut picture = hexlines::places();
+    let mut result = hexlines::places();
+    let mut work = hexlines::places();
+    finish(
+        b"",
+        carry,
+        least(used, 8215),
+        &mut line,
+        out,
+        &mut picture,
+        &mut result,
+        &mut work,
+    )
 }

@@ -2,7 +2,7 @@
 use mathlib.Core.Path.{refl, _∙_}
 use native.Mathlib.Omega.{arith}
 use borrow.Author.Needs.{needs}
-use Rattle.stream.proofs.Cut.{cut-held}
+use Rattle.stream.proofs.Cut.{held-stands}
 use Rattle.stream.proofs.hold.Statement.{statement}
 use Rattle.stream.proofs.hold.Tie as tie
 
@@ -24,10 +24,8 @@ same-length c = search needs
 returns : tie.Need-returns
 returns c =
     let s = c .before .before .before .before .before .before .before in
-    let n = c .before .before .before .before .least in (
-      omega arith,
-      rw (c .before .before .copy .ensures) (cut-held (s .args .carry .now) (s .args .s .now) (s .args .used) (n .result) (omega arith) (s .pre .1) (n .ensures ∙ rw (s .pre .1) refl)),
-    )
+    let n = c .before .before .before .before .least in
+    rw (c .before .before .copy .ensures) (held-stands (s .args .carry .now) (s .args .s .now) (s .args .used) (n .result) (omega arith) (s .pre .1) (n .ensures ∙ rw (s .pre .1) refl))
 
 pub hold-spec : {M : Type 1} → statement M
 hold-spec =

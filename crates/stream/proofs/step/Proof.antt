@@ -20,18 +20,17 @@ same-length c = search needs
 returns : tie.Need-returns
 returns c =
     let n = c .before .before .before .before .before .line-length in
-    let h = c .before .before .hold in
-    let a = c .before .before .before .before .before .before .before .before .before .args in
-    step-held (a .s .now) (a .carry .now) _ (a .out .now) (a .used) (n .result) (h .result) (n .ensures) (omega arith) (h .ensures .0) (h .ensures .1)
+    let a = c .before .before .before .before .before .before .before .before .before .before .args in
+    step-held (a .s .now) (a .carry .now) _ (a .out .now) (a .used) (n .result) _ (n .ensures) (omega arith) (c .before .before .hold .ensures)
 
 slice-aggregate-finish : tie.Need-slice-aggregate-finish
-slice-aggregate-finish c = let s = c .before .before .before .before .before .before .args .s .now in sym (length-take-le (c .before .before .line-length .result) s (omega (arith, length-within s)))
+slice-aggregate-finish c = let s = c .before .before .before .before .before .before .before .args .s .now in sym (length-take-le (c .before .before .line-length .result) s (omega (arith, length-within s)))
 
 finish-requires : tie.Need-finish-requires
 finish-requires c κs = search needs
 
-add-t11 : tie.Need-add-t11
-add-t11 c = omega (arith, length-within (c .before .before .before .before .before .before .before .before .before .before .before .before .before .before .before .before .args .s .now))
+add-t12 : tie.Need-add-t12
+add-t12 c = omega (arith, length-within (c .before .before .before .before .before .before .before .before .before .before .before .before .before .before .before .before .before .before .args .s .now))
 
 same-length-2 : tie.Need-same-length-2
 same-length-2 c = search needs
@@ -39,12 +38,14 @@ same-length-2 c = search needs
 same-length-3 : tie.Need-same-length-3
 same-length-3 c = search needs
 
+same-length-4 : tie.Need-same-length-4
+same-length-4 c = search needs
+
 returns-2 : tie.Need-returns-2
 returns-2 c =
-    let n = c .before .before .before .before .before .before .before .before .before .before .before .before .line-length in
-    let s = c .before .before .before .before .before .before .before .before .before .before .before .before .before .before .before .before in
-    let a = s .args in
-    step-answered (a .s .now) (a .carry .now) _ (a .out .now) _ (a .used) (n .result) (c .before .before .before .before .finish .result) (n .ensures) (omega (arith, length-within (a .s .now))) (s .pre .0) (s .pre .2) (c .before .before .before .before .finish .ensures)
+    let n = c .before .before .before .before .before .before .before .before .before .before .before .before .before .line-length in
+    let a = c .before .before .before .before .before .before .before .before .before .before .before .before .before .before .before .before .before .before .args in
+    step-answered (a .s .now) (a .carry .now) (a .out .now) _ (a .used) (n .result) _ (n .ensures) (omega (arith, length-within (a .s .now))) (c .before .before .before .before .finish .ensures)
 
 pub step-spec : {M : Type 1} → statement M
 step-spec =
@@ -56,7 +57,8 @@ step-spec =
     returns
     slice-aggregate-finish
     finish-requires
-    add-t11
+    add-t12
     same-length-2
     same-length-3
+    same-length-4
     returns-2)
