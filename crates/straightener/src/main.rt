@@ -1,154 +1,201 @@
-// The line program: standard input is read in blocks of 64 KiB, and each line is answered on standard output, in blocks of up to 128 KiB.
-// A read or a write that fails ends it. It holds no more than one line beside its blocks, however long the input and its lines are.
+// The line program: standard input is read in blocks of up to 16 KiB, a turn of the library answers the lines that end in a block, and the
+// answers are written to standard output. It holds no more than one line beside its block and its answers, however long the input and its
+// lines are. A read or a write that fails ends it, and it says so on standard error.
 use libc::STDIN_FILENO;
 use libc::STDOUT_FILENO;
 ghost use mathlib.Core.Path.{_≡_};
-ghost use mathlib.Core.Bool.{true};
 ghost use Prim.Native.Nat.{_≤_};
 ghost use lib.ListN.{length, take};
-ghost use Rattle.stream.specs.Steps.{Served};
+ghost use Rattle.stream.specs.Steps.{Last};
+ghost use Rattle.straightener.specs.Run.{isMore, TurnDone, AllDone};
+ghost use Rattle.straightener.specs.declared.How.the-variants.{More};
 
-// How many bytes of an unfinished line are held, and whether more input may come.
-struct Held {
+// What reading a block came to: so many bytes, the end of the input, or a failure.
+enum Input {
+    Bytes(usize),
+    Nothing,
+    Failed,
+}
+
+// How a turn went: more input may come, the input has ended, or a read or a write failed.
+enum How {
+    More,
+    Ended,
+    ReadFailed,
+    WriteFailed,
+}
+
+// What a turn came to: the bytes read, the bytes held of an unfinished line, and the bytes handed to `write`.
+struct Turn {
+    how: How,
+    read: usize,
     used: usize,
-    more: bool,
+    put: usize,
 }
 
-// Room for what is held of a line, one byte more than a well-formed one has.
-fn line_room() -> [u8; 8215] {
-    [0; 8215]
+// What all turns came to: the last one, and how many blocks were read before it.
+struct Turns {
+    last: Turn,
+    blocks: u64,
 }
 
-// Room for answers, of which the longest has 32,783 bytes.
-fn answer_room() -> [u8; 131072] {
-    [0; 131072]
+// The bytes handed to `write`, and whether all of them were taken.
+struct Handed {
+    bytes: usize,
+    all: bool,
 }
 
-// Room for the samples of a line's picture, of its result, or for work.
-fn places() -> [i32; 4096] {
-    [0; 4096]
+// Room for a block of input.
+fn block_room() -> [u8; 16384] {
+    [0; 16384]
 }
 
-// Writes the first n bytes of out, and says whether all of them were taken.
-fn put(out: &[u8], n: usize) -> bool
+// Room for the answers to the lines that end in a block.
+fn answer_room() -> [u8; 262144] {
+    [0; 262144]
+}
+
+// Reads a block.
+fn take_in(block: &mut [u8; 16384]) -> Input {
+    let got = libc::read(STDIN_FILENO, block);
+    if got < 0 {
+        return Input::Failed;
+    }
+    if got == 0 {
+        return Input::Nothing;
+    }
+    Input::Bytes(io::count(got, block))
+}
+
+// Writes the first n bytes of out.
+fn hand_over(out: &[u8], n: usize) -> Handed
     requires { ⌜ n ≤ length (now out) ⌝ }
+    ensures { λ r. ⌜ r .bytes ≡ n ⌝ }
 {
-    io::write_all(STDOUT_FILENO, &out[..n])
+    let all = io::write_all(STDOUT_FILENO, &out[..n]);
+    Handed { bytes: n, all }
 }
 
-// Answers the lines that end in the first n bytes of block, and holds what is left of them. Where a write fails nothing is held.
+// A turn with n bytes read: answers the lines that end in them, and holds what is left.
 fn serve(
-    block: &[u8],
+    block: &[u8; 16384],
     n: usize,
     carry: &mut [u8; 8215],
     used: usize,
-    out: &mut [u8; 131072],
-    picture: &mut [i32; 4096],
-    result: &mut [i32; 4096],
-    work: &mut [i32; 4096],
-) -> Held
-    requires { ⌜ n ≤ length (now block) ⌝ }
-    ensures { λ r. ⌜ (r .more ≡ true → Served (take n (now (block .entry))) (now (carry .entry)) (now (carry .exit)) used (r .used)) ⌝ }
+    out: &mut [u8; 262144],
+) -> Turn
+    ensures { λ r. ⌜ TurnDone (now (block .entry)) (now (carry .entry)) (now (carry .exit)) used (now (out .entry)) (now (out .exit)) r ⌝ }
 {
-    let mut at: usize = 0;
-    let mut held = used;
-    while at < n {
-        let m = stream::pump(&block[at..n], carry, held, out, picture, result, work);
-        at += m.taken;
-        held = m.used;
-        if !put(out, m.wrote) {
-            return Held {
-                used: 0,
-                more: false,
-            };
-        }
-    }
-    Held {
-        used: held,
-        more: true,
+    let progress = stream::turn(block, n, carry, used, out);
+    let handed = hand_over(out, progress.wrote);
+    let how = if handed.all {
+        How::More
+    } else {
+        How::WriteFailed
+    };
+    Turn {
+        how,
+        read: n,
+        used: progress.used,
+        put: handed.bytes,
     }
 }
 
-// Reads a block and serves it. Where the read fails nothing is held.
-fn next_block(
-    block: &mut [u8; 65536],
+// The turn at the end of the input: answers a last line that lacks its line feed.
+fn finish(carry: &[u8; 8215], used: usize, out: &mut [u8; 262144]) -> Turn
+    ensures { λ r. ⌜ (r .how ≡ More → ⊥) × Last (take used (now (carry .entry))) (now (out .entry)) (now (out .exit)) (r .put) ⌝ }
+{
+    let wrote = stream::last(carry, used, out);
+    let handed = hand_over(out, wrote);
+    let how = if handed.all {
+        How::Ended
+    } else {
+        How::WriteFailed
+    };
+    Turn {
+        how,
+        read: 0,
+        used: 0,
+        put: handed.bytes,
+    }
+}
+
+// Reads a block and serves it. After a failure nothing more is written.
+fn next_turn(
+    block: &mut [u8; 16384],
     carry: &mut [u8; 8215],
     used: usize,
-    out: &mut [u8; 131072],
-    picture: &mut [i32; 4096],
-    result: &mut [i32; 4096],
-    work: &mut [i32; 4096],
-) -> Held {
-    let got = libc::read(STDIN_FILENO, block);
-    if got < 0 {
-        return Held {
+    out: &mut [u8; 262144],
+) -> Turn
+    ensures { λ r. ⌜ TurnDone (now (block .exit)) (now (carry .entry)) (now (carry .exit)) used (now (out .entry)) (now (out .exit)) r ⌝ }
+{
+    let input = take_in(block);
+    match input {
+        Input::Bytes(n) => serve(block, n, carry, used, out),
+        Input::Nothing => finish(carry, used, out),
+        Input::Failed => Turn {
+            how: How::ReadFailed,
+            read: 0,
             used: 0,
-            more: false,
-        };
+            put: 0,
+        },
     }
-    if got == 0 {
-        return Held { used, more: false };
-    }
-    let n = io::count(got, block);
-    serve(block, n, carry, used, out, picture, result, work)
 }
 
-// Reads to the end of the input, and hands back how many bytes of a last line are held. The count of blocks bounds the loop alone.
-fn all_blocks(
-    block: &mut [u8; 65536],
-    carry: &mut [u8; 8215],
-    out: &mut [u8; 131072],
-    picture: &mut [i32; 4096],
-    result: &mut [i32; 4096],
-    work: &mut [i32; 4096],
-) -> usize {
-    let mut used: usize = 0;
-    let mut turns = u64::MAX;
-    while turns > 0 {
-        let h = next_block(block, carry, used, out, picture, result, work);
-        used = h.used;
-        if !h.more {
-            return used;
+fn is_more(how: How) -> bool
+    ensures { λ r. ⌜ r ≡ isMore how ⌝ }
+{
+    match how {
+        How::More => true,
+        How::Ended => false,
+        How::ReadFailed => false,
+        How::WriteFailed => false,
+    }
+}
+
+// Turn after turn, until one does not go on. The count of blocks bounds the loop alone.
+fn all_turns(block: &mut [u8; 16384], carry: &mut [u8; 8215], out: &mut [u8; 262144]) -> Turns
+    ensures { λ r. ⌜ AllDone (now (out .exit)) r ⌝ }
+{
+    let mut last = Turn {
+        how: How::More,
+        read: 0,
+        used: 0,
+        put: 0,
+    };
+    let mut blocks: u64 = 0;
+    while blocks < u64::MAX {
+        let used = last.used;
+        last = next_turn(block, carry, used, out);
+        let how = last.how;
+        if !is_more(how) {
+            return Turns { last, blocks };
         }
-        turns -= 1;
+        blocks += 1;
     }
-    used
+    Turns { last, blocks }
 }
 
-// Answers a last line that lacks its line feed.
-fn end_of_input(
-    carry: &mut [u8; 8215],
-    used: usize,
-    out: &mut [u8; 131072],
-    picture: &mut [i32; 4096],
-    result: &mut [i32; 4096],
-    work: &mut [i32; 4096],
-) {
-    let wrote = stream::finish_last(carry, used, out, picture, result, work);
-    put(out, wrote);
+// Says on standard error that answers are missing, and why.
+fn report(how: How) {
+    match how {
+        How::More => {}
+        How::Ended => {}
+        How::ReadFailed => os::fail(
+            b"straightener: answers are missing, standard input could not be read",
+        ),
+        How::WriteFailed => os::fail(
+            b"straightener: answers are missing, standard output could not be written",
+        ),
+    }
 }
 
 fn main() {
-    let mut block = io::large_buffer();
-    let mut carry = line_room();
+    let mut block = block_room();
+    let mut carry = stream::line_room();
     let mut out = answer_room();
-    let mut picture = places();
-    let mut result = places();
-    let mut work = places();
-    let used = all_blocks(
-        &mut block,
-        &mut carry,
-        &mut out,
-        &mut picture,
-        &mut result,
-        &mut work,
-    );
-    end_of_input(
-        &mut carry,
-        used,
-        &mut out,
-        &mut picture,
-        &mut result,
-        &mut work,
-    );
+    let turns = all_turns(&mut block, &mut carry, &mut out);
+    let last = turns.last;
+    let how = last.how;
+    report(how);
 }

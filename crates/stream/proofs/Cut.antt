@@ -80,7 +80,7 @@ joined line line1 carry s line2 used r h e st =
     (omega (arith, st .bytes, cut-short (take used line1 ++ s)), stands-take st ∙ rw same refl)
 
 -- bytes that were kept are what they were cut from
-pub held-itself : (carry : List ℕ) (used : ℕ) → used ≤ 8215 → Held (take used carry) (take used carry)
+pub held-itself : (carry : List ℕ) (used : ℕ) → length carry ≡ 8215 → Held (take used carry) (take used carry)
 unfolding cut
 held-itself carry used h = sym (take-all 8215 (take used carry) (simp length-take (omega arith)))
 

@@ -43,7 +43,7 @@ finished-held s kept all out out′ r e room f =
 -- ---- the end of the input
 pub last-none : (carry out : List ℕ) (used : ℕ) → used ≡ 0 → Last (take used carry) out out 0
 unfolding lastAnswer
-last-none carry out used e = record { writes = λ held k. rw (held-nothing held (rw e at k)) (stands-none out) }
+last-none carry out used e = record { writes = λ held k. rw (held-nothing held (rw e at k)) (stands-none out); room = omega arith }
 
 last-of : (held : List ℕ) → 0 < length held → lastAnswer held ≡ answerOf held
 unfolding lastAnswer
@@ -54,9 +54,13 @@ held-some : (held kept : List ℕ) → Held kept held → 0 < length kept → 0 
 unfolding cut
 held-some held kept q h = omega (arith, ap length q, length-take 8215 held)
 
-pub last-held : (kept out out′ : List ℕ) (r : ℕ) → 0 < length kept → Finished [] kept out out′ r → Last kept out out′ r
-last-held kept out out′ r h f =
-    record { writes = λ held k. rw (last-of held (held-some held kept k h), ← append-nil held) (f held k) }
+pub last-held : (carry out out′ : List ℕ) (used r : ℕ) → length carry ≡ 8215 → 0 < length (take used carry) → Finished [] (take used carry) out out′ r
+    → Last (take used carry) out out′ r
+last-held carry out out′ used r l h f =
+    record {
+      writes = λ held k. rw (last-of held (held-some held (take used carry) k h), ← append-nil held) (f held k);
+      room = omega (arith, answer-short (take used carry ++ []), f (take used carry) (held-itself carry used l) .bytes);
+    }
 
 -- ---- one step
 -- no line ends
@@ -140,7 +144,7 @@ module _ (s carry carry1 carry2 out out1 last : List ℕ) (used used1 at wrote n
       }
 
 -- how far a part of the input that is read has filled the answers' room, and what is held of it
-pub read-room : {s carry carry′ out out′ : List ℕ} {used used′ wrote : ℕ} → used ≤ 8215 → Read s carry carry′ used used′ out out′ wrote
+pub read-room : {s carry carry′ out out′ : List ℕ} {used used′ wrote : ℕ} → length carry ≡ 8215 → Read s carry carry′ used used′ out out′ wrote
     → (wrote ≤ 32783 + 11 * length s) × (used′ ≤ 8215)
 read-room {s} {carry} {carry′} {out} {out′} {used} h r =
     let k = held-itself carry used h in

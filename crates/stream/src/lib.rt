@@ -8,7 +8,7 @@ ghost use Prim.Native.Nat.{_+_, _*_, _≤_, min};
 ghost use lib.ListN.{length, take};
 ghost use lib.Seq.{paste};
 ghost use Rattle.stream.specs.Output.{lineLength};
-ghost use Rattle.stream.specs.Steps.{cut, Stands, Finished, Stepped, Turned, Last};
+ghost use Rattle.stream.specs.Steps.{cut, Stands, Finished, Read, Stepped, Turned, Last};
 
 // The length of the line that s begins with, or of s where no line ends in it.
 fn line_length(s: &[u8]) -> usize
@@ -148,7 +148,7 @@ fn lines(
     work: &mut [i32; 4096],
 ) -> Progress
     requires { ⌜ (used ≤ 8215) × (length (now carry) ≡ 8215) × (length (now line) ≡ 8215) × (n ≤ length (now s)) × (65566 + 11 * n ≤ length (now out)) ⌝ }
-    ensures { λ r. ⌜ Turned (take n (now (s .entry))) (now (carry .entry)) (now (carry .exit)) used (now (out .entry)) (now (out .exit)) r ⌝ }
+    ensures { λ r. ⌜ Read (take n (now (s .entry))) (now (carry .entry)) (now (carry .exit)) used (r .used) (now (out .entry)) (now (out .exit)) (r .wrote) ⌝ }
 {
     let mut at: usize = 0;
     let mut held = used;

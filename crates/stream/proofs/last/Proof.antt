@@ -44,7 +44,7 @@ returns-2 c =
     let l : length (a .carry .now) ≡ 8215 = omega arith in
     let e = take-min (a .carry .now) (u .result) (a .used) (omega (arith, u .ensures)) in
     let some : 0 < length (take (u .result) (a .carry .now)) = omega (arith, length-take-le (u .result) (a .carry .now) (omega (arith, u .ensures)), u .ensures, c .before .before .before .before .before .before .before .before .before .before .before .before .before .before .if1 .left) in
-    rw e at (last-held (take (u .result) (a .carry .now)) (a .out .now) _ _ some (c .before .finish .ensures))
+    rw e at (last-held (a .carry .now) (a .out .now) _ (u .result) _ l some (c .before .finish .ensures))
 
 pub last-spec : {M : Type 1} → statement M
 last-spec =

@@ -28,7 +28,7 @@ room l =
     let s = l .before .before .before .before .before in
     let i = l .loop .inv in
     let n : length (take (l .loop .at) (s .args .s .now)) ≡ l .loop .at = length-take-le (l .loop .at) (s .args .s .now) (omega arith) in
-    let r = read-room (s .pre .0) (i .5) in
+    let r = read-room (s .pre .1) (i .5) in
     omega (arith, r)
 
 -- a turn of the loop: it goes forward within n, and reads on
@@ -55,7 +55,7 @@ module _ (t : tie.After-step Inv-loop μ-loop) where
   filled : loop .loop .wrote + t .step .result .wrote ≤ 32783 + 11 * (loop .loop .at + t .step .result .taken)
   filled =
       let n : length (take (loop .loop .at + t .step .result .taken) (start .args .s .now)) ≡ loop .loop .at + t .step .result .taken = length-take-le _ (start .args .s .now) (omega (arith, forward, start .pre .3)) in
-      omega (arith, read-room (start .pre .0) more)
+      omega (arith, read-room (start .pre .1) more)
 
   unheld : loop .loop .at + t .step .result .taken < start .args .n → t .step .last .1 .0 ≡ start .args .carry .now
   unheld h =

@@ -2,9 +2,9 @@
 use mathlib.Core.Path.{_≡_}
 use native.Mathlib.Omega.{arith}
 use borrow.Author.Needs.{needs}
-use lib.ListN.{length, take}
+use lib.ListN.{length, length-take}
 use Rattle.stream.proofs.Cut.{take-min}
-use Rattle.stream.proofs.Promise.{read-least}
+use Rattle.stream.proofs.Promise.{read-least, read-room}
 use Rattle.stream.proofs.turn.Statement.{statement}
 use Rattle.stream.proofs.turn.Tie as tie
 
@@ -39,7 +39,8 @@ returns c =
     let u = c .before .before .before .before .before .before .before .least2 in
     let b : length (a .block .now) ≡ 16384 = omega arith in
     let l : length (a .carry .now) ≡ 8215 = omega arith in
-    read-least (take-min (a .block .now) (n .result) (a .n) (omega (arith, n .ensures))) (take-min (a .carry .now) (u .result) (a .used) (omega (arith, u .ensures))) (c .before .lines .ensures)
+    let r = read-least (take-min (a .block .now) (n .result) (a .n) (omega (arith, n .ensures))) (take-min (a .carry .now) (u .result) (a .used) (omega (arith, u .ensures))) (c .before .lines .ensures) in
+    record { reads = r; room = omega (arith, read-room l r .0, length-take (a .n) (a .block .now)) }
 
 pub turn-spec : {M : Type 1} → statement M
 turn-spec =

@@ -1,0 +1,32 @@
+-- What a turn and all turns come to. What `read` puts into the block, and what `write` does with the bytes that it is handed, no contract
+-- can say. Assumes nothing.
+use Prim.Native.Nat.{ℕ}
+use mathlib.Core.Path.{_≡_}
+use mathlib.Core.Bool.{Bool, true, false}
+use mathlib.Core.List.{List, []}
+use lib.ListN.{take}
+use Rattle.stream.specs.Output.{rest, lastAnswer}
+use Rattle.stream.specs.Steps.{Read, Last}
+use Rattle.straightener.specs.declared.How.{How}
+use Rattle.straightener.specs.declared.How.the-variants.{More, Ended, ReadFailed, WriteFailed}
+use Rattle.straightener.specs.declared.Turn.{Turn}
+use Rattle.straightener.specs.declared.Turns.{Turns}
+
+abbrev pub isMore : How → Bool
+isMore More = true
+isMore Ended = false
+isMore ReadFailed = false
+isMore WriteFailed = false
+
+-- One turn, from the carry and the answers' room as they were. Where it goes on, the bytes read are read on from the line that was held, and
+-- the bytes handed to `write` are the answers to the lines that ended in them. Where the input has ended, they are the answer to a last line
+-- that lacks its line feed
+pub record TurnDone (block carry carry′ : List ℕ) (used : ℕ) (out out′ : List ℕ) (r : Turn) : Type 0 where
+  pub more : r .how ≡ More → Read (take (r .read) block) carry carry′ used (r .used) out out′ (r .put)
+  pub ended : r .how ≡ Ended → Last (take used carry) out out′ (r .put)
+
+-- All turns, from an empty carry. Where the input has ended, the last bytes handed to `write` are the answer to the unfinished line of what was
+-- read. They go on until then, or until a read or a write fails, or for 2⁶⁴ - 1 blocks
+pub record AllDone (out : List ℕ) (r : Turns) : Type 0 where
+  pub ended : r .last .how ≡ Ended → (input : List ℕ) × (take (r .last .put) out ≡ lastAnswer (rest [] input))
+  pub more : r .last .how ≡ More → r .blocks ≡ 18446744073709551615
