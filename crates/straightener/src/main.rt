@@ -1,4 +1,4 @@
-// The line program: standard input is read in blocks of up to 16 KiB, a turn of the library answers the lines that end in a block, and the
+// The line program: standard input is read in blocks of up to 64 KiB, a turn of the library answers the lines that end in a block, and the
 // answers are written to standard output. It holds no more than one line beside its block and its answers, however long the input and its
 // lines are. A read or a write that fails ends it, and it says so on standard error.
 use libc::STDIN_FILENO;
@@ -45,18 +45,13 @@ struct Handed {
     all: bool,
 }
 
-// Room for a block of input.
-fn block_room() -> [u8; 16384] {
-    [0; 16384]
-}
-
 // Room for the answers to the lines that end in a block.
-fn answer_room() -> [u8; 262144] {
-    [0; 262144]
+fn answer_room() -> [u8; 1048576] {
+    [0; 1048576]
 }
 
 // Reads a block.
-fn take_in(block: &mut [u8; 16384]) -> Input {
+fn take_in(block: &mut [u8; 65536]) -> Input {
     let got = libc::read(STDIN_FILENO, block);
     if got < 0 {
         return Input::Failed;
@@ -78,11 +73,11 @@ fn hand_over(out: &[u8], n: usize) -> Handed
 
 // A turn with n bytes read: answers the lines that end in them, and holds what is left.
 fn serve(
-    block: &[u8; 16384],
+    block: &[u8; 65536],
     n: usize,
     carry: &mut [u8; 8215],
     used: usize,
-    out: &mut [u8; 262144],
+    out: &mut [u8; 1048576],
 ) -> Turn
     ensures { λ r. ⌜ TurnDone (now (block .entry)) (now (carry .entry)) (now (carry .exit)) used (now (out .entry)) (now (out .exit)) r ⌝ }
 {
@@ -102,7 +97,7 @@ fn serve(
 }
 
 // The turn at the end of the input: answers a last line that lacks its line feed.
-fn finish(carry: &[u8; 8215], used: usize, out: &mut [u8; 262144]) -> Turn
+fn finish(carry: &[u8; 8215], used: usize, out: &mut [u8; 1048576]) -> Turn
     ensures { λ r. ⌜ (r .how ≡ More → ⊥) × Last (take used (now (carry .entry))) (now (out .entry)) (now (out .exit)) (r .put) ⌝ }
 {
     let wrote = stream::last(carry, used, out);
@@ -122,10 +117,10 @@ fn finish(carry: &[u8; 8215], used: usize, out: &mut [u8; 262144]) -> Turn
 
 // Reads a block and serves it. After a failure nothing more is written.
 fn next_turn(
-    block: &mut [u8; 16384],
+    block: &mut [u8; 65536],
     carry: &mut [u8; 8215],
     used: usize,
-    out: &mut [u8; 262144],
+    out: &mut [u8; 1048576],
 ) -> Turn
     ensures { λ r. ⌜ TurnDone (now (block .exit)) (now (carry .entry)) (now (carry .exit)) used (now (out .entry)) (now (out .exit)) r ⌝ }
 {
@@ -142,6 +137,7 @@ fn next_turn(
     }
 }
 
+// Whether a turn goes on.
 fn is_more(how: How) -> bool
     ensures { λ r. ⌜ r ≡ isMore how ⌝ }
 {
@@ -154,7 +150,7 @@ fn is_more(how: How) -> bool
 }
 
 // Turn after turn, until one does not go on. The count of blocks bounds the loop alone.
-fn all_turns(block: &mut [u8; 16384], carry: &mut [u8; 8215], out: &mut [u8; 262144]) -> Turns
+fn all_turns(block: &mut [u8; 65536], carry: &mut [u8; 8215], out: &mut [u8; 1048576]) -> Turns
     ensures { λ r. ⌜ AllDone (now (out .exit)) r ⌝ }
 {
     let mut last = Turn {
@@ -191,7 +187,7 @@ fn report(how: How) {
 }
 
 fn main() {
-    let mut block = block_room();
+    let mut block = io::large_buffer();
     let mut carry = stream::line_room();
     let mut out = answer_room();
     let turns = all_turns(&mut block, &mut carry, &mut out);

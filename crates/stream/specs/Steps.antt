@@ -37,10 +37,10 @@ pub record Stepped (s carry carry′ : List ℕ) (used : ℕ) (out out′ : List
   pub unheld : r .taken < length s → carry′ ≡ carry
   pub reads : Read (take (r .taken) s) carry carry′ used (r .used) out out′ (r .wrote)
 
--- a block of the input, in a turn of the program, whose answers have room in 262,144 bytes
+-- a block of the input, in a turn of the program, whose answers have room in 1,048,576 bytes
 pub record Turned (s carry carry′ : List ℕ) (used : ℕ) (out out′ : List ℕ) (r : Progress) : Type 0 where
   pub reads : Read s carry carry′ used (r .used) out out′ (r .wrote)
-  pub room : r .wrote ≤ 262144
+  pub room : r .wrote ≤ 1048576
 
 -- a last line that lacks its line feed is answered
 pub record Last (kept out out′ : List ℕ) (r : ℕ) : Type 0 where

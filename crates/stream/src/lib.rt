@@ -175,11 +175,11 @@ fn lines(
 // answers to the lines that end in them are written to the front of out, and what is left of the last line to the front of carry; both are
 // otherwise as they were. A line of more than 8,214 bytes is 9 whatever follows, so no more than 8,215 bytes of it are held.
 pub fn turn(
-    block: &[u8; 16384],
+    block: &[u8; 65536],
     n: usize,
     carry: &mut [u8; 8215],
     used: usize,
-    out: &mut [u8; 262144],
+    out: &mut [u8; 1048576],
 ) -> Progress
     ensures { λ r. ⌜ Turned (take n (now (block .entry))) (now (carry .entry)) (now (carry .exit)) used (now (out .entry)) (now (out .exit)) r ⌝ }
 {
@@ -189,7 +189,7 @@ pub fn turn(
     let mut work = hexlines::places();
     lines(
         block,
-        least(n, 16384),
+        least(n, 65536),
         carry,
         least(used, 8215),
         &mut line,
@@ -202,7 +202,7 @@ pub fn turn(
 
 // The end of the input: a last line that lacks its line feed, the first `used` bytes of carry, is answered at the front of out; no bytes are
 // no line. Hands back how many bytes the answer has.
-pub fn last(carry: &[u8; 8215], used: usize, out: &mut [u8; 262144]) -> usize
+pub fn last(carry: &[u8; 8215], used: usize, out: &mut [u8; 1048576]) -> usize
     ensures { λ r. ⌜ Last (take used (now (carry .entry))) (now (out .entry)) (now (out .exit)) r ⌝ }
 {
     if used == 0 {

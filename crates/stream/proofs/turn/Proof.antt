@@ -37,7 +37,7 @@ returns c =
     let a = c .before .before .before .before .before .before .before .before .before .before .before .before .before .before .before .args in
     let n = c .before .before .before .before .before .before .before .before .before .least in
     let u = c .before .before .before .before .before .before .before .least2 in
-    let b : length (a .block .now) ≡ 16384 = omega arith in
+    let b : length (a .block .now) ≡ 65536 = omega arith in
     let l : length (a .carry .now) ≡ 8215 = omega arith in
     let r = read-least (take-min (a .block .now) (n .result) (a .n) (omega (arith, n .ensures))) (take-min (a .carry .now) (u .result) (a .used) (omega (arith, u .ensures))) (c .before .lines .ensures) in
     record { reads = r; room = omega (arith, read-room l r .0, length-take (a .n) (a .block .now)) }
