@@ -20,13 +20,21 @@ isMore WriteFailed = false
 
 -- One turn, from the carry and the answers' room as they were. Where it goes on, the bytes read are read on from the line that was held, and
 -- the bytes handed to `write` are the answers to the lines that ended in them. Where the input has ended, they are the answer to a last line
--- that lacks its line feed
+-- that lacks its line feed. Bytes that were not all taken are told
 pub record TurnDone (block carry carry′ : List ℕ) (used : ℕ) (out out′ : List ℕ) (r : Turn) : Type 0 where
-  pub more : r .how ≡ More → Read (take (r .read) block) carry carry′ used (r .used) out out′ (r .put)
-  pub ended : r .how ≡ Ended → Last (take used carry) out out′ (r .put)
+  pub more : r .how ≡ More → Read (take (r .read) block) carry carry′ used (r .used) out out′ (r .handed .bytes)
+  pub ended : r .how ≡ Ended → Last (take used carry) out out′ (r .handed .bytes)
+  pub told : r .handed .all ≡ false → r .how ≡ WriteFailed
+
+-- The turn at the end of the input
+pub record Closed (kept out out′ : List ℕ) (r : Turn) : Type 0 where
+  pub done : r .how ≡ More → ⊥
+  pub last : Last kept out out′ (r .handed .bytes)
+  pub told : r .handed .all ≡ false → r .how ≡ WriteFailed
 
 -- All turns, from an empty carry. Where the input has ended, the last bytes handed to `write` are the answer to the unfinished line of what was
 -- read. They go on until then, or until a read or a write fails, or for 2⁶⁴ - 1 blocks
 pub record AllDone (out : List ℕ) (r : Turns) : Type 0 where
-  pub ended : r .last .how ≡ Ended → (input : List ℕ) × (take (r .last .put) out ≡ lastAnswer (rest [] input))
+  pub ended : r .last .how ≡ Ended → (input : List ℕ) × (take (r .last .handed .bytes) out ≡ lastAnswer (rest [] input))
+  pub told : r .last .handed .all ≡ false → r .last .how ≡ WriteFailed
   pub more : r .last .how ≡ More → r .blocks ≡ 18446744073709551615

@@ -5,10 +5,9 @@ use libc::STDIN_FILENO;
 use libc::STDOUT_FILENO;
 ghost use mathlib.Core.Path.{_≡_};
 ghost use Prim.Native.Nat.{_≤_};
+ghost use mathlib.Core.Bool.{true};
 ghost use lib.ListN.{length, take};
-ghost use Rattle.stream.specs.Steps.{Last};
-ghost use Rattle.straightener.specs.Run.{isMore, TurnDone, AllDone};
-ghost use Rattle.straightener.specs.declared.How.the-variants.{More};
+ghost use Rattle.straightener.specs.Run.{isMore, TurnDone, Closed, AllDone};
 
 // What reading a block came to: so many bytes, the end of the input, or a failure.
 enum Input {
@@ -25,24 +24,24 @@ enum How {
     WriteFailed,
 }
 
+// The bytes handed to `write`, and whether all of them were taken.
+struct Handed {
+    bytes: usize,
+    all: bool,
+}
+
 // What a turn came to: the bytes read, the bytes held of an unfinished line, and the bytes handed to `write`.
 struct Turn {
     how: How,
     read: usize,
     used: usize,
-    put: usize,
+    handed: Handed,
 }
 
 // What all turns came to: the last one, and how many blocks were read before it.
 struct Turns {
     last: Turn,
     blocks: u64,
-}
-
-// The bytes handed to `write`, and whether all of them were taken.
-struct Handed {
-    bytes: usize,
-    all: bool,
 }
 
 // Room for the answers to the lines that end in a block.
@@ -71,6 +70,16 @@ fn hand_over(out: &[u8], n: usize) -> Handed
     Handed { bytes: n, all }
 }
 
+// No bytes were handed over.
+fn nothing() -> Handed
+    ensures { λ r. ⌜ r ≡ record { bytes = 0; all = true } ⌝ }
+{
+    Handed {
+        bytes: 0,
+        all: true,
+    }
+}
+
 // A turn with n bytes read: answers the lines that end in them, and holds what is left.
 fn serve(
     block: &[u8; 65536],
@@ -92,13 +101,13 @@ fn serve(
         how,
         read: n,
         used: progress.used,
-        put: handed.bytes,
+        handed,
     }
 }
 
 // The turn at the end of the input: answers a last line that lacks its line feed.
 fn finish(carry: &[u8; 8215], used: usize, out: &mut [u8; 1048576]) -> Turn
-    ensures { λ r. ⌜ (r .how ≡ More → ⊥) × Last (take used (now (carry .entry))) (now (out .entry)) (now (out .exit)) (r .put) ⌝ }
+    ensures { λ r. ⌜ Closed (take used (now (carry .entry))) (now (out .entry)) (now (out .exit)) r ⌝ }
 {
     let wrote = stream::last(carry, used, out);
     let handed = hand_over(out, wrote);
@@ -111,7 +120,7 @@ fn finish(carry: &[u8; 8215], used: usize, out: &mut [u8; 1048576]) -> Turn
         how,
         read: 0,
         used: 0,
-        put: handed.bytes,
+        handed,
     }
 }
 
@@ -132,7 +141,7 @@ fn next_turn(
             how: How::ReadFailed,
             read: 0,
             used: 0,
-            put: 0,
+            handed: nothing(),
         },
     }
 }
@@ -157,7 +166,7 @@ fn all_turns(block: &mut [u8; 65536], carry: &mut [u8; 8215], out: &mut [u8; 104
         how: How::More,
         read: 0,
         used: 0,
-        put: 0,
+        handed: nothing(),
     };
     let mut blocks: u64 = 0;
     while blocks < u64::MAX {

@@ -1,8 +1,10 @@
 -- `straightener::next_turn` meets its contract.
 use Prim.Native.Nat.{ℕ}
-use mathlib.Core.Path.{_≡_}
+use mathlib.Core.Bool.{true≢false}
+use mathlib.Core.Path.{_≡_, sym, ap, _∙_}
 use native.Mathlib.Omega.{arith}
 use borrow.Author.Needs.{needs}
+use Rattle.straightener.specs.declared.Handed.{Handed}
 use Rattle.straightener.proofs.next_turn.Statement.{statement}
 use Rattle.straightener.proofs.next_turn.Tie as tie
 
@@ -24,17 +26,23 @@ finish-requires c κs = search needs
 enum-told-2 : tie.Need-enum-told-2
 enum-told-2 c = search needs
 
+nothing-requires : tie.Need-nothing-requires
+nothing-requires c κs = search needs
+
 returns : tie.Need-returns
 returns c = search needs
 
 returns-2 : tie.Need-returns-2
-returns-2 c = record { more = λ e. absurd (c .finish .ensures .0 e); ended = λ e. c .finish .ensures .1 }
+returns-2 c =
+    let f = c .finish .ensures in
+    record { more = λ e. absurd (f .done e); ended = λ e. f .last; told = f .told }
 
 returns-3 : tie.Need-returns-3
 returns-3 c =
     record {
       more = λ e. let z : _≡_ {A = ℕ} 0 1 = cc in absurd (omega arith);
       ended = λ e. let z : _≡_ {A = ℕ} 0 1 = cc in absurd (omega arith);
+      told = λ e. absurd (true≢false (sym (ap (λ (h : Handed). h .all) (c .nothing .ensures)) ∙ e));
     }
 
 pub next-turn-spec : {M : Type 1} → statement M
@@ -47,6 +55,7 @@ next-turn-spec =
     enum-told
     finish-requires
     enum-told-2
+    nothing-requires
     returns
     returns-2
     returns-3)

@@ -1,6 +1,7 @@
 -- `straightener::serve` meets its contract.
 use Prim.Native.Nat.{ℕ}
-use mathlib.Core.Path.{_≡_}
+use mathlib.Core.Bool.{true≢false}
+use mathlib.Core.Path.{_≡_, refl, sym, _∙_}
 use native.Mathlib.Omega.{arith}
 use borrow.Author.Needs.{needs}
 use Rattle.straightener.proofs.serve.Statement.{statement}
@@ -17,6 +18,7 @@ returns c =
     record {
       more = λ e. rw (c .before .hand-over .ensures) (c .before .before .before .before .turn .ensures .reads);
       ended = λ e. let z : _≡_ {A = ℕ} 0 1 = cc in absurd (omega arith);
+      told = λ e. absurd (true≢false (sym (c .if1 .taken) ∙ e));
     }
 
 returns-2 : tie.Need-returns-2
@@ -24,6 +26,7 @@ returns-2 c =
     record {
       more = λ e. let z : _≡_ {A = ℕ} 0 1 = cc in absurd (omega arith);
       ended = λ e. let z : _≡_ {A = ℕ} 0 1 = cc in absurd (omega arith);
+      told = λ e. refl;
     }
 
 pub serve-spec : {M : Type 1} → statement M
