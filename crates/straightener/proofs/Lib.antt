@@ -1,3 +1,3 @@
 -- Laws of the line program's own loop.
---     Going   a turn that goes on, and one that does not
+--     Going   how a turn went
 mod Going

@@ -12,6 +12,12 @@ use Rattle.straightener.specs.declared.How.the-variants.{More, Ended, Re
 use Rattle.straightener.specs.declared.Turn.{Turn}
 use Rattle.straightener.specs.declared.Turns.{Turns}
 
+-- a turn that would have gone as `how` had all its bytes been taken
+abbrev pub toldOf : Bool → How → How
+toldOf true how = how
+toldOf false how = WriteFailed
+
+-- whether a turn goes on
 abbrev pub isMore : How → Bool
 isMore More = true
 isMore Ended = false

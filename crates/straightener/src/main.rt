@@ -7,7 +7,7 @@ ghost use mathlib.Core.Path.{_≡_};
 ghost use Prim.Native.Nat.{_≤_};
 ghost use mathlib.Core.Bool.{true};
 ghost use lib.ListN.{length, take};
-ghost use Rattle.straightener.specs.Run.{isMore, TurnDone, Closed, AllDone};
+ghost use Rattle.straightener.specs.Run.{isMore, toldOf, TurnDone, Closed, AllDone};
 
 // What reading a block came to: so many bytes, the end of the input, or a failure.
 enum Input {
@@ -80,6 +80,13 @@ fn nothing() -> Handed
     }
 }
 
+// How a turn went, by whether all bytes were taken that it handed to `write`.
+fn told(all: bool, how: How) -> How
+    ensures { λ r. ⌜ r ≡ toldOf all how ⌝ }
+{
+    if all { how } else { How::WriteFailed }
+}
+
 // A turn with n bytes read: answers the lines that end in them, and holds what is left.
 fn serve(
     block: &[u8; 65536],
@@ -92,13 +99,8 @@ fn serve(
 {
     let progress = stream::turn(block, n, carry, used, out);
     let handed = hand_over(out, progress.wrote);
-    let how = if handed.all {
-        How::More
-    } else {
-        How::WriteFailed
-    };
     Turn {
-        how,
+        how: told(handed.all, How::More),
         read: n,
         used: progress.used,
         handed,
@@ -111,13 +113,8 @@ fn finish(carry: &[u8; 8215], used: usize, out: &mut [u8; 1048576]) -> Turn
 {
     let wrote = stream::last(carry, used, out);
     let handed = hand_over(out, wrote);
-    let how = if handed.all {
-        How::Ended
-    } else {
-        How::WriteFailed
-    };
     Turn {
-        how,
+        how: told(handed.all, How::Ended),
         read: 0,
         used: 0,
         handed,

@@ -1,9 +1,7 @@
 -- `straightener::finish` meets its contract.
-use Prim.Native.Nat.{ℕ}
-use mathlib.Core.Bool.{true≢false}
-use mathlib.Core.Path.{_≡_, refl, sym, _∙_}
-use native.Mathlib.Omega.{arith}
+use mathlib.Core.Path.{sym, _∙_}
 use borrow.Author.Needs.{needs}
+use Rattle.straightener.proofs.Going.{failure-told, ended-not-more}
 use Rattle.straightener.proofs.finish.Statement.{statement}
 use Rattle.straightener.proofs.finish.Tie as tie
 
@@ -11,23 +9,19 @@ last-requires : tie.Need-last-requires
 last-requires c κs = search needs
 
 hand-over-requires : tie.Need-hand-over-requires
-hand-over-requires c κs = omega (arith, c .before .before .last .ensures .room)
+hand-over-requires c κs = search needs
+
+told-requires : tie.Need-told-requires
+told-requires c κs = search needs
 
 returns : tie.Need-returns
 returns c =
+    let how = c .told .ensures in
     record {
-      done = λ e. let z : _≡_ {A = ℕ} 0 1 = cc in omega arith;
+      done = λ e. ended-not-more _ (sym how ∙ e);
       last = rw (c .before .hand-over .ensures) (c .before .before .before .before .last .ensures);
-      told = λ e. absurd (true≢false (sym (c .if1 .taken) ∙ e));
-    }
-
-returns-2 : tie.Need-returns-2
-returns-2 c =
-    record {
-      done = λ e. let z : _≡_ {A = ℕ} 0 1 = cc in omega arith;
-      last = rw (c .before .hand-over .ensures) (c .before .before .before .before .last .ensures);
-      told = λ e. refl;
+      told = λ e. how ∙ failure-told _ _ e;
     }
 
 pub finish-spec : {M : Type 1} → statement M
-finish-spec = tie.close (tie.spec last-requires hand-over-requires returns returns-2)
+finish-spec = tie.close (tie.spec last-requires hand-over-requires told-requires returns)
