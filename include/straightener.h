@@ -167,6 +167,17 @@ straightener_answer straightener_move_line(size_t n, uint32_t kernel, int32_t d,
                                            int32_t *work, size_t work_len);
 
 /*
+ * The setting with one part changed and the others kept. Nothing is tested and nothing refused: the
+ * values are tested where the setting is used.
+ *   kernel  another kernel, 0, 1 or 2
+ *   cx, cy  another centre: its column, then its row, both counted from 0
+ *   a, b    other shears, of the rows and then of the columns, in 4,096ths
+ */
+straightener_setting straightener_with_kernel(straightener_setting setting, uint32_t kernel);
+straightener_setting straightener_with_centre(straightener_setting setting, size_t cx, size_t cy);
+straightener_setting straightener_with_shears(straightener_setting setting, int32_t a, int32_t b);
+
+/*
  * The setting with the shears of step t, a = -t and b = S(t), and the rest kept.
  *   t  4,096 times the tangent of half the angle, from -1,697 to 1,697; a positive step levels a
  *      graticule line that rises to the right
