@@ -16,7 +16,7 @@ use Rattle.readings.specs.declared.Reading.{Reading}
 use Rattle.readings.specs.declared.Reading.the-variants.{Level}
 use Rattle.readings.specs.Sample.{floatOf, Exactly, readingOf}
 use Rattle.readings.specs.Ends.{smallest, largest}
-use Rattle.readings.specs.Answers.{range, judged, outside, judgedPoint, Tells, Out, FloatsOut, sampleAt, readingAnswer, ReadingAt, summaryAnswer, SummaryOf}
+use Rattle.readings.specs.Answers.{range, judged, judgedPoint, Out, FloatsOut, sampleAt, readingAnswer, ReadingAt, summaryAnswer, SummaryOf}
 use Rattle.readings.proofs.Exact.{float-exact, zero-bits}
 use Rattle.readings.proofs.Cases.{reading-exact}
 use Rattle.readings.proofs.Passed.{passed}

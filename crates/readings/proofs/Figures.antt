@@ -7,7 +7,7 @@ use lib.IntN.{ℤ}
 use lib.ListN.{length}
 use Rattle.refusals.specs.declared.Verdict.the-variants.{Accepted}
 use Rattle.refusals.specs.Tests.{badSize, short, firstBad}
-use Rattle.refusals.specs.Judging.{refusedIf, ofFound, andThen, isFound}
+use Rattle.refusals.specs.Judging.{refusedIf, ofFound}
 use Rattle.refusals.proofs.Figures.{figures-found, figures-refusedIf, figures-andThen, andThen-refusedIf}
 use Rattle.readings.specs.Answers.{range, judged, outside, judgedPoint, Tells}
 

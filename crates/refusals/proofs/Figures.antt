@@ -9,7 +9,7 @@ use lib.IntN.{ℤ}
 use Rattle.refusals.specs.declared.Found.{Found}
 use Rattle.refusals.specs.declared.Found.the-variants.{Nothing, At}
 use Rattle.refusals.specs.declared.Verdict.{Verdict}
-use Rattle.refusals.specs.declared.Verdict.the-variants.{Accepted, Refused}
+use Rattle.refusals.specs.declared.Verdict.the-variants.{Accepted}
 use Rattle.refusals.specs.Tests.{firstBad, AllWithin}
 use Rattle.refusals.specs.Judging.{refusedIf, ofFound, andThen, numberOf, rowOf, columnOf, isFound, Figures}
 use Rattle.refusals.proofs.First.{nothing-bad, BadAt, first-bad}
