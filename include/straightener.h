@@ -1,11 +1,15 @@
 /*
  * straightener.h - pictures of analyser screens straightened by three shears in whole numbers.
  *
- * The functions are in the static library libexports.a (rt staticlib exports), which needs nothing
- * but the C library. Each one is proved to answer what is said here for every input.
+ * The functions are in the static library libexports.a (rt staticlib exports), which is code for x86-64
+ * Linux and needs nothing but the C library. Each function is proved to answer what is said here for
+ * every input, as long as every buffer is there, has as many places as its length says, and overlaps no
+ * other buffer of the call. The proof is about the functions as they are written; that the kit's
+ * compiler keeps their meaning is assumed, and tested from C and Rust.
  *
  * Straightening     straightener_straighten, straightener_move_line
- * Settings, steps   straightener_with_step, straightener_sine, straightener_level
+ * Settings, steps   straightener_with_kernel, straightener_with_centre, straightener_with_shears,
+ *                   straightener_with_step, straightener_sine, straightener_level
  * Readings          straightener_greys_out, straightener_floats_out, straightener_reading,
  *                   straightener_summary
  * Line format       straightener_answer_line
@@ -15,13 +19,14 @@
  * both from 0. Width and height are 1 to 1,024.
  *
  * Buffers. A buffer is a pointer and, after it, its length in places (not in bytes). It may be longer
- * than the call needs: later places are neither read nor written. The buffers of one call may not
- * overlap. A pointer may be NULL where its length is 0. No function keeps a pointer or any state, so
- * calls on different buffers may run at the same time.
+ * than the call needs: later places stay as they are, and nothing that is answered or written depends on
+ * them. The buffers of one call may not overlap. A pointer may be NULL where its length is 0. No
+ * function keeps a pointer or any state, so calls on different buffers may run at the same time.
  *
- * Refusals. Every answer carries a number; 0 says that the call was accepted. Of several numbers that
- * apply the lowest is answered (straightener_reading: 6 before 7). A refused call leaves every buffer
- * untouched, and every other figure of its answer is 0 unless it is said otherwise below.
+ * Refusals. Every answer that is a struct with a number may be a refusal; number 0 says that the call
+ * was accepted. Of several numbers that apply the lowest is answered, but a line of the line format
+ * that is not well-formed is answered with 9. A refused call leaves every buffer untouched, and every
+ * figure of its answer but the number is 0, except where it is said otherwise below.
  *
  *   1  width, height or line length is 0 or over 1,024
  *   2  a buffer is too short
@@ -31,7 +36,7 @@
  *   6  a sample is beyond the call's range; row and column name the first one in row order
  *   7  a point lies outside the picture (levelling: a coordinate is not from 0 to 1,023)
  *   8  the two points of a graticule line do not run to the right, or are steeper than 45 degrees
- *   9  a line of the line format is not well-formed
+ *   9  a line of the line format is not well-formed, or has over 4,096 greys
  */
 #ifndef STRAIGHTENER_H
 #define STRAIGHTENER_H
@@ -63,11 +68,11 @@ enum { STRAIGHTENER_LINEAR = 0, STRAIGHTENER_KEYS = 1, STRAIGHTENER_SPLINE = 2 }
 /* The cases of a reading. */
 enum { STRAIGHTENER_LEVEL = 0, STRAIGHTENER_UNDER = 1, STRAIGHTENER_OVER = 2 };
 
-/* The answer to a line of the line format never takes more bytes than this. */
+/* The answer to a line of the line format, with its line feed, never takes more bytes than this. */
 #define STRAIGHTENER_LONGEST_ANSWER 32783
 
 /*
- * How a picture is straightened. Nothing is tested until the setting is used.
+ * How a picture is straightened. Any values may stand in it: they are tested where it is used.
  *   kernel  0, 1 or 2
  *   cx, cy  column and row of the centre, which stays where it is; cx below the width, cy below the height
  *   a, b    shears of the rows and of the columns, in 4,096ths, each from -4,096 to 4,096
@@ -84,7 +89,8 @@ typedef struct {
  * What most calls answer.
  *   number       0, or the refusal number
  *   row, column  under number 6 the place of the first sample beyond the range, else 0
- *   count        the number of lines interpolated, those that did not move by whole samples
+ *   count        the number of lines interpolated, those that did not move by whole samples; a row
+ *                that is interpolated in both its passes counts twice
  */
 typedef struct {
     uint32_t number;
@@ -138,9 +144,9 @@ typedef struct {
  *   width, height  1 to 1,024
  *   setting        see above
  *   picture        at least width * height places; samples within +-32,767
- *   result         at least width * height places; the first of them receive the straightened picture,
- *                  whose samples may lie beyond +-32,767 but never beyond the +-1,048,576 of the readings
- *   work           at least 4 * max(width, height) places, of which the first are 0 afterwards
+ *   result         at least width * height places; so many receive the straightened picture, whose
+ *                  samples may lie beyond +-32,767 but never beyond the +-1,048,576 of the readings
+ *   work           at least 4 * max(width, height) places; so many are 0 afterwards
  * Refuses under 1, 2, 3, 4, 5, 6. The count is at most 2 * (height - 1) + (width - 1).
  * No sample of the result lies further from the same three passes in exact fractions than 3/2 units
  * (kernel 0), 2 units (kernel 1) or 10 units (kernel 2) of 1/128 grey.
@@ -156,8 +162,8 @@ straightener_answer straightener_straighten(size_t width, size_t height, straigh
  *   kernel  0, 1 or 2
  *   d       the move in 4,096ths of a sample, toward higher places if positive; within +-4,194,304
  *   line    at least n places; samples within +-294,912
- *   result  at least n places; the first of them receive the moved line
- *   work    at least 2 * n places, of which the first are 0 afterwards
+ *   result  at least n places; so many receive the moved line
+ *   work    at least 2 * n places; so many are 0 afterwards
  * Refuses under 1, 2, 4, 5, 6 (row 0). The count is 1 if the line was interpolated, 0 if it moved by
  * whole samples.
  */
@@ -165,6 +171,16 @@ straightener_answer straightener_move_line(size_t n, uint32_t kernel, int32_t d,
                                            const int32_t *line, size_t line_len,
                                            int32_t *result, size_t result_len,
                                            int32_t *work, size_t work_len);
+
+/*
+ * The setting with one part changed, to what is handed in, and the others kept. Nothing is refused.
+ *   kernel  the kernel: 0, 1 or 2
+ *   cx, cy  the centre: its column, then its row, both counted from 0
+ *   a, b    the shears, of the rows and then of the columns, in 4,096ths
+ */
+straightener_setting straightener_with_kernel(straightener_setting setting, uint32_t kernel);
+straightener_setting straightener_with_centre(straightener_setting setting, size_t cx, size_t cy);
+straightener_setting straightener_with_shears(straightener_setting setting, int32_t a, int32_t b);
 
 /*
  * The setting with the shears of step t, a = -t and b = S(t), and the rest kept.
@@ -193,7 +209,7 @@ straightener_step straightener_level(int32_t x1, int32_t y1, int32_t x2, int32_t
  * Turns samples into greys: (v + 64)/128 rounded down, held to 0 to 255.
  *   width, height  1 to 1,024
  *   picture        at least width * height places; samples within +-1,048,576
- *   greys          at least width * height places, of which the first receive the greys
+ *   greys          at least width * height places; so many receive the greys
  * Refuses under 1, 2, 6. The count is 0.
  */
 straightener_answer straightener_greys_out(size_t width, size_t height,
@@ -204,7 +220,7 @@ straightener_answer straightener_greys_out(size_t width, size_t height,
  * Turns samples into greys as floats: v/128, exact, held to no range.
  *   width, height  1 to 1,024
  *   picture        at least width * height places; samples within +-1,048,576
- *   floats         at least width * height places, of which the first receive the floats
+ *   floats         at least width * height places; so many receive the floats
  * Refuses under 1, 2, 6. The count is 0.
  */
 straightener_answer straightener_floats_out(size_t width, size_t height,
@@ -232,8 +248,9 @@ straightener_summary_answer straightener_summary(size_t width, size_t height,
 
 /*
  * Answers one line of the line format, as the line program does.
- *   line    the line without its line feed: upper-case hexadecimal, kernel 2 digits, step 4 (two's
- *           complement), width, height, cx, cy 4 each, then 2 digits for each grey; at most 4,096 greys
+ *   line    the whole line, without its line feed: upper-case hexadecimal, kernel 2 digits, step 4
+ *           (two's complement), width, height, cx, cy 4 each, then 2 digits for each of width * height
+ *           greys, at most 4,096
  *   answer  receives the answer with its line feed: 00, count 4 digits, width 4, height 4 and 8 digits
  *           a sample (two's complement), or the refusal number 2, row 4 and column 4 digits
  * Returns the number of bytes written, or 0, with nothing written, if the answer is longer than

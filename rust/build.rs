@@ -8,6 +8,12 @@ fn main() {
     if env::var_os("CARGO_FEATURE_LIBRARY").is_none() {
         return;
     }
+    let target = |what: &str| env::var(format!("CARGO_CFG_TARGET_{what}")).unwrap_or_default();
+    if (target("ARCH").as_str(), target("OS").as_str()) != ("x86_64", "linux") {
+        eprintln!("The proved library is x86-64 Linux code, which this target cannot link.");
+        eprintln!("To build and test the second implementation alone, add:   --no-default-features");
+        std::process::exit(1);
+    }
     let package = env::var("CARGO_MANIFEST_DIR").expect("cargo names the package's folder");
     let folder = Path::new(&package).join("../target/staticlib");
     let library = folder.join("libexports.a");

@@ -30,9 +30,10 @@
 //!
 //! # Parts
 //!
-//! [`straighten`], [`move_line`], [`level`], [`sine`], the readings and [`answer_line`] call the proved
-//! library. [`raw`] is its C interface. [`second`] is an independent second implementation of the same
-//! document, and [`exact`] its exact pictures in fractions; both are for tests and the benchmark.
+//! [`straighten`], [`move_line`], every change of a [`Setting`], [`level`], [`sine`], the readings and
+//! [`answer_line`] call the proved library, which is x86-64 Linux code. [`raw`] is its C interface.
+//! [`second`] is an independent second implementation of the same document, and [`exact`] its exact
+//! pictures in fractions; both are for tests and the benchmark.
 
 pub mod exact;
 pub mod second;

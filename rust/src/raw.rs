@@ -6,7 +6,7 @@
 
 /// Kernel, centre and shears, as the library takes them.
 #[repr(C)]
-#[derive(Clone, Copy, Debug, Default, PartialEq, Eq)]
+#[derive(Clone, Copy, Debug, Default, PartialEq, Eq, Hash)]
 pub struct Setting {
     /// 0 linear, 1 Keys, 2 cubic spline.
     pub kernel: u32,
@@ -103,6 +103,9 @@ mod linked {
             result: *mut i32, result_len: usize,
             work: *mut i32, work_len: usize,
         ) -> Answer;
+        pub fn straightener_with_kernel(setting: Setting, kernel: u32) -> Setting;
+        pub fn straightener_with_centre(setting: Setting, cx: usize, cy: usize) -> Setting;
+        pub fn straightener_with_shears(setting: Setting, a: i32, b: i32) -> Setting;
         pub fn straightener_with_step(setting: Setting, t: i32) -> Change;
         pub fn straightener_sine(t: i32) -> Step;
         pub fn straightener_level(x1: i32, y1: i32, x2: i32, y2: i32) -> Step;
@@ -178,6 +181,24 @@ pub fn move_line(
     unsafe {
         linked::straightener_move_line(n, kernel, d, line, line_len, result, result_len, work, work_len)
     }
+}
+
+/// The setting with another kernel.
+pub fn with_kernel(setting: Setting, kernel: u32) -> Setting {
+    // SAFETY: plain values.
+    unsafe { linked::straightener_with_kernel(setting, kernel) }
+}
+
+/// The setting with the centre at another column and row.
+pub fn with_centre(setting: Setting, cx: usize, cy: usize) -> Setting {
+    // SAFETY: plain values.
+    unsafe { linked::straightener_with_centre(setting, cx, cy) }
+}
+
+/// The setting with other shears of the rows and of the columns, in 4,096ths.
+pub fn with_shears(setting: Setting, a: i32, b: i32) -> Setting {
+    // SAFETY: plain values.
+    unsafe { linked::straightener_with_shears(setting, a, b) }
 }
 
 /// The setting with the shears of a step.

@@ -35,11 +35,7 @@ pub enum Kernel {
 /// # }
 /// ```
 #[derive(Clone, Copy, Debug, Default, PartialEq, Eq, Hash)]
-pub struct Setting {
-    kernel: Kernel,
-    centre: (usize, usize),
-    shears: (i32, i32),
-}
+pub struct Setting(raw::Setting);
 
 impl Setting {
     /// The linear kernel, the centre at column 0 and row 0, and no shear.
@@ -49,54 +45,51 @@ impl Setting {
 
     /// This setting with another kernel.
     pub fn with_kernel(self, kernel: Kernel) -> Setting {
-        Setting { kernel, ..self }
+        Setting(raw::with_kernel(self.0, kernel as u32))
     }
 
     /// This setting with the centre, which stays where it is, at another column and row.
     pub fn with_centre(self, column: usize, row: usize) -> Setting {
-        let centre = (column, row);
-        Setting { centre, ..self }
+        Setting(raw::with_centre(self.0, column, row))
     }
 
     /// This setting with other shears of the rows and of the columns, in 4,096ths: -4,096 to 4,096.
     pub fn with_shears(self, rows: i32, columns: i32) -> Setting {
-        let shears = (rows, columns);
-        Setting { shears, ..self }
+        Setting(raw::with_shears(self.0, rows, columns))
     }
 
     /// This setting with the shears of a step: 4,096 times the tangent of half the angle, from -1,697
     /// to 1,697. A positive step levels a graticule line that rises to the right.
     pub fn with_step(self, step: i32) -> Result<Setting, Refusal> {
-        let change = raw::with_step(self.into(), step);
+        let change = raw::with_step(self.0, step);
         accepted(change.number, 0, 0)?;
-        Ok(self.with_shears(change.setting.a, change.setting.b))
+        Ok(Setting(change.setting))
     }
 
     /// The kernel.
     pub fn kernel(self) -> Kernel {
-        self.kernel
+        // Every kernel number in a setting came from a `Kernel`.
+        match self.0.kernel {
+            0 => Kernel::Linear,
+            1 => Kernel::Keys,
+            _ => Kernel::Spline,
+        }
     }
 
     /// Column and row of the centre.
     pub fn centre(self) -> (usize, usize) {
-        self.centre
+        (self.0.cx, self.0.cy)
     }
 
     /// The shears of the rows and of the columns, in 4,096ths.
     pub fn shears(self) -> (i32, i32) {
-        self.shears
+        (self.0.a, self.0.b)
     }
 }
 
 impl From<Setting> for raw::Setting {
     fn from(setting: Setting) -> raw::Setting {
-        raw::Setting {
-            kernel: setting.kernel as u32,
-            cx: setting.centre.0,
-            cy: setting.centre.1,
-            a: setting.shears.0,
-            b: setting.shears.1,
-        }
+        setting.0
     }
 }
 

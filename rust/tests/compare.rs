@@ -222,16 +222,21 @@ fn readings_greys_and_floats() {
 
 #[test]
 fn greys_and_floats_of_every_sample_in_range() {
-    let samples: Vec<i32> = (-1_048_576..=1_048_575).collect();
+    let samples: Vec<i32> = (-1_048_576..=1_048_576).collect();
     let (mut greys, mut floats) = (vec![0; 1 << 20], vec![0.0; 1 << 20]);
+    let mut tried = 0;
+    // Two pictures of 1,024 by 1,024, and one of the last sample alone.
     for picture in samples.chunks(1 << 20) {
-        assert_eq!(Library.greys_out((1_024, 1_024), picture, &mut greys).number, 0);
-        assert_eq!(Library.floats_out((1_024, 1_024), picture, &mut floats).number, 0);
+        let size = if picture.len() == 1 { (1, 1) } else { (1_024, 1_024) };
+        assert_eq!(Library.greys_out(size, picture, &mut greys).number, 0);
+        assert_eq!(Library.floats_out(size, picture, &mut floats).number, 0);
+        tried += size.0 * size.1;
         for (place, &v) in picture.iter().enumerate() {
             assert_eq!(greys[place], straightener::second::grey(v), "sample {v}");
             assert_eq!(floats[place].to_bits(), exact_float_bits(v), "sample {v}");
         }
     }
+    assert_eq!(tried, 2 * 1_048_576 + 1);
 }
 
 /// The bits of v/128, divided in 64 bits, as a 32-bit float that holds it exactly.

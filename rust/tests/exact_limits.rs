@@ -1,14 +1,20 @@
-//! Demand 3: results against the exact picture, in exact fractions, for every size from 1 by 1 to 9 by 9.
+//! Results against exact fractions: demand 3 for every size from 1 by 1 to 9 by 9, moved lines of 1 to 24
+//! samples, and spline coefficients.
 
 mod common;
 
-use common::calls::PictureCall;
+use common::calls::{LineCall, PictureCall};
 use common::numbers::Numbers;
 use common::Implementation;
 use straightener::exact::{self, Fractions, Whole};
 use straightener::second::{self, Setting};
 
-for_both_implementations!(every_sample_within_its_limit, one_grey_is_exact, whole_sample_moves_are_exact,);
+for_both_implementations!(
+    every_sample_within_its_limit,
+    one_grey_is_exact,
+    whole_sample_moves_are_exact,
+    every_moved_line_within_its_limit,
+);
 
 /// Every size from 1 by 1 to 9 by 9, with each kernel.
 fn sizes_and_kernels() -> impl Iterator<Item = (usize, usize, u32)> {
@@ -63,16 +69,33 @@ fn whole_sample_moves_are_exact(implementation: &dyn Implementation) {
     }
 }
 
+/// A line of whole numbers as fractions.
+fn fractions(line: &[i32]) -> Fractions {
+    Fractions { numbers: line.iter().map(|&v| Whole::from(i64::from(v))).collect(), over: Whole::from(1) }
+}
+
+// The library hands out no coefficients; what shows of them is the spline's moved line, which is held
+// here to 1/2 unit for its one rounding and 1/4 for coefficients within 4 of 16 times the exact ones.
+fn every_moved_line_within_its_limit(implementation: &dyn Implementation) {
+    let mut numbers = Numbers::seeded(15);
+    for n in (1..=exact::LONGEST).cycle().take(40 * exact::LONGEST) {
+        for kernel in 0..3 {
+            let (d, line) = (numbers.edgy(4_194_304), numbers.samples(n, 294_912));
+            let call = LineCall::fitting(kernel, d, line);
+            let outcome = call.run(implementation);
+            assert_eq!(outcome.answer.number, 0, "{call:?}");
+            let exact = exact::moved(kernel, i64::from(d), &fractions(&call.line));
+            assert!(exact::line_within_limits(kernel, &outcome.result, &exact), "beyond its limit: {call:?}");
+        }
+    }
+}
+
 #[test]
-fn coefficients_within_4_of_16_times_the_exact_ones() {
+fn the_second_implementations_coefficients_are_within_4_of_16_times_the_exact_ones() {
     let mut numbers = Numbers::seeded(14);
     for n in (1..=exact::LONGEST).cycle().take(30 * exact::LONGEST) {
         let line = numbers.samples(n, 294_912);
-        let fractions = Fractions {
-            numbers: line.iter().map(|&v| Whole::from(i64::from(v))).collect(),
-            over: Whole::from(1),
-        };
-        let exact = exact::coefficients(&fractions);
+        let exact = exact::coefficients(&fractions(&line));
         let most = exact.over.times(4);
         for (c, number) in second::coefficients(&line).into_iter().zip(&exact.numbers) {
             let off = exact.over.times(c).minus(&number.times(16));

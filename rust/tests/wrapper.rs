@@ -1,6 +1,7 @@
 //! The safe wrapper: its settings, its refusals and its messages.
 #![cfg(feature = "library")]
 
+use std::collections::HashSet;
 use straightener::{
     answer_line, floats_out, greys_out, level, line_work_places, move_line, reading, sine, straighten,
     straightened, summary, work_places, Kernel, Refusal, Setting,
@@ -10,6 +11,15 @@ use straightener::{
 fn a_change_keeps_the_rest_of_the_setting() {
     let setting = Setting::new().with_kernel(Kernel::Spline).with_centre(3, 4).with_shears(5, 6);
     assert_eq!((setting.kernel(), setting.centre(), setting.shears()), (Kernel::Spline, (3, 4), (5, 6)));
+    let keys = setting.with_kernel(Kernel::Keys);
+    assert_eq!((keys.kernel(), keys.centre(), keys.shears()), (Kernel::Keys, (3, 4), (5, 6)));
+    let linear = keys.with_kernel(Kernel::Linear);
+    assert_eq!((linear.kernel(), linear.centre(), linear.shears()), (Kernel::Linear, (3, 4), (5, 6)));
+    let far = setting.with_centre(usize::MAX, 7).with_shears(i32::MIN, i32::MAX);
+    assert_eq!(
+        (far.kernel(), far.centre(), far.shears()),
+        (Kernel::Spline, (usize::MAX, 7), (i32::MIN, i32::MAX))
+    );
     let stepped = setting.with_step(-1_697).expect("a step within its range");
     assert_eq!(
         (stepped.kernel(), stepped.centre(), stepped.shears()),
@@ -66,8 +76,8 @@ fn refusals_have_their_numbers_and_a_message_each() {
     }
     assert!(messages[5].contains("row 3, column 5") && messages[5].contains("32,767"), "{}", messages[5]);
     assert!(messages.iter().all(|message| message.len() > 40 && !message.contains("  ")), "{messages:?}");
-    messages.dedup();
-    assert_eq!(messages.len(), 9);
+    let different: HashSet<&String> = messages.iter().collect();
+    assert_eq!(different.len(), 9, "no two refusals say the same: {messages:?}");
     assert_eq!((Refusal::from_number(0, 0, 0), Refusal::from_number(10, 0, 0)), (None, None));
 }
 

@@ -3,6 +3,7 @@
 ghost use mathlib.Core.Path.{_≡_};
 ghost use Rattle.pictures.specs.Answer.{Answer as PictureStraightened};
 ghost use Rattle.lines.specs.Answer.{LineMoved};
+ghost use Rattle.settings.specs.Setting.{withKernel, withCentre, withShears};
 ghost use Rattle.steps.specs.Step.{SineAnswer, changeOf};
 ghost use Rattle.steps.specs.Level.{LevelAnswer};
 ghost use Rattle.readings.specs.Sample.{greyOf};
@@ -204,6 +205,30 @@ pub extern "C" fn straightener_move_line(
     ensures { λ r. ⌜ Exported ofLine (LineMoved n kernel d (now (line .entry)) (now (result .entry)) (now (work .entry)) (now (result .exit)) (now (work .exit))) r ⌝ }
 {
     of_line(lines::move_line(n, kernel, d, line, result, work))
+}
+
+// The setting with another kernel.
+#[no_mangle]
+pub extern "C" fn straightener_with_kernel(setting: Setting, kernel: u32) -> Setting
+    ensures { λ r. ⌜ r ≡ withKernel setting kernel ⌝ }
+{
+    setting.with_kernel(kernel)
+}
+
+// The setting with the centre at column cx and row cy.
+#[no_mangle]
+pub extern "C" fn straightener_with_centre(setting: Setting, cx: usize, cy: usize) -> Setting
+    ensures { λ r. ⌜ r ≡ withCentre setting cx cy ⌝ }
+{
+    setting.with_centre(cx, cy)
+}
+
+// The setting with the shears a and b, in 4,096ths.
+#[no_mangle]
+pub extern "C" fn straightener_with_shears(setting: Setting, a: i32, b: i32) -> Setting
+    ensures { λ r. ⌜ r ≡ withShears setting a b ⌝ }
+{
+    setting.with_shears(a, b)
 }
 
 // The setting with the shears of step t.

@@ -20,18 +20,19 @@ use Rattle.readings.specs.Answers.{range, judged, judgedPoint, Out, Floa
 use Rattle.readings.proofs.Exact.{float-exact, zero-bits}
 use Rattle.readings.proofs.Cases.{reading-exact}
 use Rattle.readings.proofs.Passed.{passed}
+use Rattle.readings.proofs.Figures.{judged-figures, point-figures}
 
 -- ---- greys out and floats out
 module _ {A : Type 0} (f : ℤ → A) (width height : ℕ) (picture : List ℤ) (old : List A) where
   pub out-refused : (r : Verdict) (number row column : ℕ) → r ≡ judged width height (min (length picture) (length old)) picture
       → r ≡ Refused number row column
       → Out f width height picture old old r
-  out-refused r number row column e t = record { verdict = e; buffer = rw t refl }
+  out-refused r number row column e t = record { verdict = e; figures = rw e (judged-figures width height _ picture); buffer = rw t refl; refused = λ h. refl }
 
   pub out-accepted : (new : List A) → Accepted ≡ judged width height (min (length picture) (length old)) picture
       → new ≡ tab (λ k. f (line picture k)) (height * width) ++ drop (height * width) old
       → Out f width height picture old new Accepted
-  out-accepted new e b = record { verdict = e; buffer = b }
+  out-accepted new e b = record { verdict = e; figures = rw e (judged-figures width height _ picture); buffer = b; refused = λ h. absurd (h refl) }
 
 module _ (width height : ℕ) (picture : List ℤ) (old : List Float) where
   pub floats-refused : (r : Verdict) (number row column : ℕ) → r ≡ judged width height (min (length picture) (length old)) picture
@@ -64,13 +65,23 @@ module _ (width height column row : ℕ) (picture : List ℤ) (r : Verdict) (e :
   pub reading-refused : (number y x : ℕ) → r ≡ Refused number y x
       → ReadingAt width height column row picture (record { verdict = r; reading = Level (ofBits binary32 0) })
   unfolding readingAnswer
-  reading-refused number y x t = record { answer = rw (← e, t, zero-bits) refl; exact = rw (t, zero-bits) (float-exact (pos 0) (lit≤ tt)) }
+  reading-refused number y x t = record {
+    answer = rw (← e, t, zero-bits) refl;
+    figures = rw e (point-figures width height column row picture);
+    refused = λ h. refl;
+    exact = rw (t, zero-bits) (float-exact (pos 0) (lit≤ tt));
+  }
 
   pub reading-accepted : (reading : Reading) → r ≡ Accepted → reading ≡ readingOf (sampleAt width column row picture)
       → natAbs (sampleAt width column row picture) ≤ range
       → ReadingAt width height column row picture (record { verdict = r; reading = reading })
   unfolding readingAnswer
-  reading-accepted reading t q h = record { answer = rw (← e, t, q) refl; exact = rw (t, q) (reading-exact (sampleAt width column row picture) h) }
+  reading-accepted reading t q h = record {
+    answer = rw (← e, t, q) refl;
+    figures = rw e (point-figures width height column row picture);
+    refused = λ n. absurd (n (rw t refl));
+    exact = rw (t, q) (reading-exact (sampleAt width column row picture) h);
+  }
 
 -- ---- the summary
 module _ (width height : ℕ) (picture : List ℤ) (r : Verdict) (e : r ≡ judged width height (length picture) picture) where
@@ -79,6 +90,8 @@ module _ (width height : ℕ) (picture : List ℤ) (r : Verdict) (e : r ≡ judg
   unfolding summaryAnswer
   summary-refused number y x t = record {
     answer = rw (← e, t, zero-bits) refl;
+    figures = rw e (judged-figures width height _ picture);
+    refused = λ h. (refl, refl);
     darkest-exact = rw (t, zero-bits) (float-exact (pos 0) (lit≤ tt));
     lightest-exact = rw (t, zero-bits) (float-exact (pos 0) (lit≤ tt));
   }
@@ -91,6 +104,8 @@ module _ (width height : ℕ) (picture : List ℤ) (r : Verdict) (e : r ≡ judg
   unfolding summaryAnswer
   summary-accepted low high darkest lightest t l h d b sl sh = record {
     answer = rw (← e, t, d, b, l, h) refl;
+    figures = rw e (judged-figures width height _ picture);
+    refused = λ n. absurd (n (rw t refl));
     darkest-exact = rw (t, ← l, d) (float-exact low sl);
     lightest-exact = rw (t, ← h, b) (float-exact high sh);
   }

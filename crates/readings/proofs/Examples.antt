@@ -1,4 +1,4 @@
--- Samples at the borders, and verdicts in the order of the numbers, worked out by the checker. Assumes nothing.
+-- Samples at the borders, verdicts in the order of the numbers, and whole answers, worked out by the checker. Assumes nothing.
 use mathlib.Core.Path.{_≡_, refl}
 use mathlib.Core.List.{List, [], _∷_, map}
 use lib.IntN.{ℤ, pos, negsuc}
@@ -6,9 +6,11 @@ use lib.Ieee.{binary32, round, toBits, ofBits}
 use Rattle.arith.specs.Whole.{floor, minℤ, maxℤ}
 use Rattle.refusals.specs.declared.Verdict.the-variants.{Accepted, Refused}
 use Rattle.refusals.specs.Tests.{badSide, badSize, short, beyondOf, firstFrom, firstBad}
+use Rattle.refusals.specs.Judging.{numberOf, rowOf, columnOf}
 use Rattle.readings.specs.declared.Reading.the-variants.{Level, Under, Over}
 use Rattle.readings.specs.Sample.{greyOf, floatOf, readingOf}
-use Rattle.readings.specs.Answers.{judged, outside, judgedPoint}
+use Rattle.readings.specs.Ends.{picked}
+use Rattle.readings.specs.Answers.{judged, outside, judgedPoint, readingAnswer, summaryAnswer}
 
 -- greys of -65, -64, 63, 64, 32,640 and 32,704: 64 units are the first of grey 1, and a grey is held to 0 to 255
 greys-at-the-borders :
@@ -71,3 +73,34 @@ bad-before-outside = refl
 point-outside : judgedPoint 1 2 0 2 two-bad ≡ Refused 7 0 0
 unfolding two-bad judgedPoint outside judged badSize badSide short firstBad firstFrom beyondOf
 point-outside = refl
+
+-- ---- whole answers
+-- a picture 3 wide and 2 high: its darkest grey is -1, its lightest 320
+six : List ℤ
+six = pos 384 ∷ pos 40960 ∷ negsuc 63 ∷ pos 0 ∷ negsuc 127 ∷ pos 128 ∷ []
+
+darkest-and-lightest :
+    summaryAnswer 3 2 six ≡ record { verdict = Accepted; summary = record { darkest = ofBits binary32 0xBF80_0000; lightest = ofBits binary32 0x43A0_0000 } }
+unfolding six summaryAnswer picked minℤ maxℤ floatOf round ofBits judged badSize badSide short firstBad firstFrom beyondOf
+darkest-and-lightest = refl
+
+-- column 2 and row 0 of it: Under by half a grey
+half-under : readingAnswer 3 2 2 0 six ≡ record { verdict = Accepted; reading = Under (ofBits binary32 0x3F00_0000) }
+unfolding six readingAnswer readingOf floatOf round ofBits judgedPoint outside judged badSize badSide short firstBad firstFrom beyondOf
+half-under = refl
+
+-- refused under 6, row 1, column 0: the reading is Level 0, and both greys of the summary are 0
+refused-reading : readingAnswer 2 2 1 0 two-bad ≡ record { verdict = Refused 6 1 0; reading = Level (ofBits binary32 0) }
+unfolding two-bad readingAnswer floatOf round ofBits judgedPoint outside judged badSize badSide short firstBad firstFrom beyondOf
+refused-reading = refl
+
+refused-summary :
+    summaryAnswer 2 2 two-bad ≡ record { verdict = Refused 6 1 0; summary = record { darkest = ofBits binary32 0; lightest = ofBits binary32 0 } }
+unfolding two-bad summaryAnswer floatOf round ofBits judged badSize badSide short firstBad firstFrom beyondOf
+refused-summary = refl
+
+refused-figures :
+    let v = judged 2 2 4 two-bad in
+    (numberOf v ≡ 6) × (rowOf v ≡ 1) × (columnOf v ≡ 0)
+unfolding two-bad judged badSize badSide short firstBad firstFrom beyondOf
+refused-figures = (refl, refl, refl)

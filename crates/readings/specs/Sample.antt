@@ -11,9 +11,13 @@ use Rattle.arith.specs.Whole.{floor, minℤ, maxℤ}
 use Rattle.readings.specs.declared.Reading.{Reading}
 use Rattle.readings.specs.declared.Reading.the-variants.{Level, Under, Over}
 
+-- half a grey, added so that what is rounded down comes out nearest
+abbrev pub halfGrey : ℕ
+halfGrey = 64
+
 -- a grey of a byte: (v + 64)/128 rounded down, held to 0 to 255
 unfoldable pub greyOf : ℤ → ℕ
-greyOf v = natAbs (maxℤ (pos 0) (minℤ (pos 255) (floor (v +ℤ pos 64) 128)))
+greyOf v = natAbs (maxℤ (pos 0) (minℤ (pos 255) (floor (v +ℤ pos halfGrey) 128)))
 
 -- v/128 as a 32-bit float: the one nearest to |v|/128, with the sign of v
 unfoldable pub floatOf : ℤ → Float

@@ -1,6 +1,8 @@
 -- Verdicts: the order of judging, and what document 01 answers under each. Assumes nothing.
 use Prim.Native.Nat.{ℕ}
-use mathlib.Core.Bool.{Bool, true, false}
+use mathlib.Core.Path.{_≡_}
+use mathlib.Core.Bool.{Bool, true, false, cond}
+use lib.Dec.{eqb}
 use Rattle.refusals.specs.declared.Found.{Found}
 use Rattle.refusals.specs.declared.Found.the-variants.{Nothing, At}
 use Rattle.refusals.specs.declared.Verdict.{Verdict}
@@ -39,3 +41,22 @@ columnOf (Refused number row column) = column
 abbrev pub whenAccepted : {A : Type 0} → Verdict → A → A → A
 whenAccepted Accepted new old = new
 whenAccepted (Refused number row column) new old = old
+
+-- what a scan found, as figures: whether there is such a sample, and its row and its column, 0 where there is none
+abbrev pub isFound : Found → Bool
+isFound Nothing = false
+isFound (At row column) = true
+
+abbrev pub foundRow : Found → ℕ
+foundRow Nothing = 0
+foundRow (At row column) = row
+
+abbrev pub foundColumn : Found → ℕ
+foundColumn Nothing = 0
+foundColumn (At row column) = column
+
+-- the figures of a verdict where `lowest` is the lowest number that applies: "row and column are 0 except under 6"
+pub record Figures (lowest : ℕ) (found : Found) (v : Verdict) : Type 0 where
+  pub number : numberOf v ≡ lowest
+  pub row : rowOf v ≡ cond (eqb lowest 6) (foundRow found) 0
+  pub column : columnOf v ≡ cond (eqb lowest 6) (foundColumn found) 0

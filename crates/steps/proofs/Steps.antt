@@ -2,7 +2,7 @@
 -- Assumes nothing.
 use Prim.Native.Nat.{ℕ, zero, suc, _+_, _*_, _≤_, _<_}
 use mathlib.Core.Path.{_≡_, refl, sym, ap, _∙_}
-use mathlib.Core.Bool.{Bool, true, false, true≢false}
+use mathlib.Core.Bool.{Bool, true, false, cond, true≢false}
 use native.Mathlib.Omega.{arith, by-contra}
 use lib.Dec.{T, ltb, ltb→lt}
 use lib.IntN.{ℤ, pos, negsuc, negℤ, natAbs, _-ℤ_, _*ℤ_, negℤ-negℤ, +ℤ-idl}
@@ -16,6 +16,7 @@ use Rattle.settings.specs.declared.Setting.{Setting}
 use Rattle.settings.specs.Setting.{withShears}
 use Rattle.steps.specs.Table.{sines}
 use Rattle.steps.specs.Step.{entry, S, Nearest, dividend, divisor, SineRule, beyond, sineOf, SineAnswer, changeOf}
+use Rattle.steps.specs.declared.Change.{Change}
 use Rattle.steps.specs.declared.StepSine.the-variants.{Value, Refused}
 
 -- ---- the table: the rule as a test, which passes at every entry
@@ -113,6 +114,40 @@ module _ (t : ℤ) where
         value = rw e refl;
         nearest = λ f. sine-nearest t e;
       }
+
+-- ---- a change by step, part by part
+module _ (setting : Setting) (t : ℤ) where
+  abbrev by : Bool → Change
+  by refused = cond refused (record { number = 4; setting = setting }) (record { number = 0; setting = withShears setting (negℤ t) (S t) })
+
+  -- number 4 just where t is beyond its range
+  pub change-number : changeOf setting t .number ≡ cond (beyond t) 4 0
+  unfolding changeOf
+  change-number = each (beyond t)
+    where
+      each : (refused : Bool) → by refused .number ≡ cond refused 4 0
+      each true = refl
+      each false = refl
+
+  -- A = -t and B = S(t), and as they were where t is refused
+  pub change-shears : (changeOf setting t .setting .a ≡ cond (beyond t) (setting .a) (negℤ t))
+      × (changeOf setting t .setting .b ≡ cond (beyond t) (setting .b) (S t))
+  unfolding changeOf
+  change-shears = each (beyond t)
+    where
+      each : (refused : Bool) → (by refused .setting .a ≡ cond refused (setting .a) (negℤ t)) × (by refused .setting .b ≡ cond refused (setting .b) (S t))
+      each true = (refl, refl)
+      each false = (refl, refl)
+
+  -- kernel and centre are kept, refused or not
+  pub change-alone : (changeOf setting t .setting .kernel ≡ setting .kernel)
+      × (changeOf setting t .setting .cx ≡ setting .cx) × (changeOf setting t .setting .cy ≡ setting .cy)
+  unfolding changeOf
+  change-alone = each (beyond t)
+    where
+      each : (refused : Bool) → (by refused .setting .kernel ≡ setting .kernel) × (by refused .setting .cx ≡ setting .cx) × (by refused .setting .cy ≡ setting .cy)
+      each true = (refl, refl, refl)
+      each false = (refl, refl, refl)
 
 -- ---- the two answers of `with_step`
 module _ (setting : Setting) (t : ℤ) where

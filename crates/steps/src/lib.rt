@@ -12,6 +12,9 @@ use settings::Setting;
 
 mod table;
 
+// The range of a step, either way from 0.
+const RANGE: i32 = 1697;
+
 // What `sine` answers: S of the step, or a refusal number.
 pub enum StepSine {
     Value(i32),
@@ -49,7 +52,7 @@ fn sine_of(t: i32) -> i32
 pub fn sine(t: i32) -> StepSine
     ensures { λ r. ⌜ SineAnswer t r ⌝ }
 {
-    if refusals::beyond(t, 1697) {
+    if refusals::beyond(t, RANGE) {
         return StepSine::Refused(4);
     }
     StepSine::Value(sine_of(t))
@@ -59,7 +62,7 @@ pub fn sine(t: i32) -> StepSine
 pub fn with_step(setting: Setting, t: i32) -> Change
     ensures { λ r. ⌜ r ≡ changeOf setting t ⌝ }
 {
-    if refusals::beyond(t, 1697) {
+    if refusals::beyond(t, RANGE) {
         return Change { number: 4, setting };
     }
     let a = -t;

@@ -1,8 +1,10 @@
-//! How fast the proved library is, as ratios taken in one interleaved run.
+//! How fast the proved library is, measured in one interleaved run and printed as the tables of
+//! `docs/PERFORMANCE.md`.
 //!
 //! In every round each call is timed once beside the second implementation and beside three plain
 //! copies of the same picture, the least that three passes can do; the line program is timed beside
-//! `cat`. A ratio is the median over the rounds of the ratios within a round.
+//! `cat`. Each time is the median over the rounds, to three digits, and each ratio that of the two
+//! medians as they are printed, to two digits.
 //!
 //! `cargo run --release --bin bench [ROUNDS]`, after `rt check straightener` and `rt staticlib exports`.
 
@@ -19,7 +21,7 @@ use straightener::{raw, second};
 const STEP: i32 = 80;
 
 /// Kernels by number, with the most that a ratio at 1,024 by 1,024 is to be.
-const KERNELS: [(&str, f64); 3] = [("linear", 0.15), ("Keys", 0.25), ("spline", 0.28)];
+const KERNELS: [(&str, f64); 3] = [("linear", 0.15), ("Keys", 0.25), ("cubic spline", 0.28)];
 
 /// Sizes of pictures, and how many calls are timed at once so that the clock resolves them.
 const SIZES: [(usize, usize, u32); 3] = [(1_024, 1_024, 1), (640, 480, 3), (64, 64, 200)];
@@ -89,24 +91,64 @@ impl Case {
         self.rounds.push([library, plain, copies]);
     }
 
-    /// The median seconds of one contestant.
-    fn median_seconds(&self, contestant: usize) -> f64 {
-        median(self.rounds.iter().map(|times| times[contestant]).collect())
+    /// The median milliseconds of one contestant, as they are printed.
+    fn milliseconds(&self, contestant: usize) -> f64 {
+        to_digits(3, 1e3 * median(self.rounds.iter().map(|times| times[contestant]).collect()))
     }
 
     /// The row of the table.
     fn row(&self) -> String {
         let (name, target) = KERNELS[self.setting.kernel as usize];
-        let ratio = median(self.rounds.iter().map(|[library, plain, _]| library / plain).collect());
-        let floor = median(self.rounds.iter().map(|[library, _, copies]| library / copies).collect());
-        let target = if self.size.0 == 1_024 { format!("{target:.2}") } else { "-".to_string() };
-        let size = format!("{} x {}", self.size.0, self.size.1);
-        format!(
-            "{size:<12} {name:<8} {:>12.3} {:>12.3} {ratio:>8.3} {target:>8} {floor:>12.1}",
-            1e3 * self.median_seconds(0),
-            1e3 * self.median_seconds(1),
-        )
+        let [library, plain, copies] = [0, 1, 2].map(|contestant| self.milliseconds(contestant));
+        let target = if self.size.0 == 1_024 { format!("{target:.2}") } else { String::new() };
+        let size = format!("{} by {}", grouped(self.size.0 as f64), grouped(self.size.1 as f64));
+        let times = [library, plain, copies].map(|time| format!("{} ms", figure(3, time)));
+        let ratios = [figure(2, library / plain), target, figure(2, library / copies)];
+        table_row(&[&[size, name.to_string()], &times[..], &ratios[..]].concat())
     }
+}
+
+/// A figure rounded to so many digits that count.
+fn to_digits(digits: i32, figure: f64) -> f64 {
+    let unit = 10_f64.powi(figure.log10().floor() as i32 + 1 - digits);
+    (figure / unit).round() * unit
+}
+
+/// A figure as it is printed, to so many digits that count.
+fn figure(digits: i32, figure: f64) -> String {
+    let rounded = to_digits(digits, figure);
+    let places = (digits - 1 - rounded.log10().floor() as i32).max(0) as usize;
+    if places == 0 {
+        grouped(rounded)
+    } else {
+        format!("{rounded:.places$}")
+    }
+}
+
+/// A whole number with a comma before every three digits.
+fn grouped(number: f64) -> String {
+    let digits = format!("{number:.0}");
+    let mut text = String::new();
+    for (place, digit) in digits.chars().enumerate() {
+        if place > 0 && (digits.len() - place) % 3 == 0 {
+            text.push(',');
+        }
+        text.push(digit);
+    }
+    text
+}
+
+/// A row of a table, in the form of the document.
+fn table_row(cells: &[String]) -> String {
+    let text: String =
+        cells.iter().map(|cell| if cell.is_empty() { " |".into() } else { format!(" {cell} |") }).collect();
+    format!("|{text}")
+}
+
+/// The head of a table, in the form of the document.
+fn table_head(names: &[&str]) -> String {
+    let names: Vec<String> = names.iter().map(|name| name.to_string()).collect();
+    format!("{}\n|{}", table_row(&names), "---|".repeat(names.len()))
 }
 
 /// Seconds of one of several calls made in a row.
@@ -155,7 +197,7 @@ fn run_over(program: &Path, input: &Path) -> io::Result<(f64, u64)> {
 fn line_program(program: &Path, input: (usize, usize, usize), rounds: usize) -> io::Result<String> {
     let path = std::env::temp_dir().join(format!("straightener-bench-{}.txt", std::process::id()));
     write_lines(input, &path)?;
-    let (mut ours, mut cats, mut ratios) = (Vec::new(), Vec::new(), Vec::new());
+    let (mut ours, mut cats) = (Vec::new(), Vec::new());
     for _ in 0..rounds {
         let (time, bytes) = run_over(program, &path)?;
         let (cat_time, _) = run_over(Path::new("cat"), &path)?;
@@ -163,13 +205,12 @@ fn line_program(program: &Path, input: (usize, usize, usize), rounds: usize) -> 
         assert_eq!(bytes, (input.2 * answer) as u64, "every line is answered with a picture");
         ours.push(time);
         cats.push(cat_time);
-        ratios.push(time / cat_time);
     }
     std::fs::remove_file(&path)?;
-    let rate = |times: Vec<f64>| input.2 as f64 / median(times);
-    let size = format!("{} x {}", input.0, input.1);
-    let (ours, cats, ratio) = (rate(ours), rate(cats), median(ratios));
-    Ok(format!("{size:<12} {ours:>14.0} {cats:>14.0} {ratio:>8.1}"))
+    let rate = |times: Vec<f64>| to_digits(3, input.2 as f64 / median(times));
+    let (ours, cats) = (rate(ours), rate(cats));
+    let size = format!("{} by {}", input.0, input.1);
+    Ok(table_row(&[size, figure(3, ours), figure(3, cats), figure(2, cats / ours)]))
 }
 
 fn main() -> Result<(), Box<dyn Error>> {
@@ -181,10 +222,19 @@ fn main() -> Result<(), Box<dyn Error>> {
     for _ in 0..rounds {
         cases.iter_mut().for_each(Case::round);
     }
-    println!("Three passes at step {STEP}, medians of {rounds} interleaved rounds\n");
+    println!("Three passes at step {STEP}: medians of {rounds} interleaved rounds, and the ratios of these medians.\n");
     println!(
-        "{:<12} {:<8} {:>12} {:>12} {:>8} {:>8} {:>12}",
-        "picture", "kernel", "library, ms", "second, ms", "ratio", "target", "of 3 copies"
+        "{}",
+        table_head(&[
+            "Picture",
+            "Kernel",
+            "Library",
+            "Second implementation",
+            "Three copies",
+            "Of second",
+            "Target",
+            "Times three copies"
+        ])
     );
     cases.iter().for_each(|case| println!("{}", case.row()));
 
@@ -192,8 +242,10 @@ fn main() -> Result<(), Box<dyn Error>> {
     if !program.is_file() {
         return Err("the line program is not there; make it by: rt check straightener".into());
     }
-    println!("\nThe line program, kernels by turns\n");
-    println!("{:<12} {:>14} {:>14} {:>8}", "picture", "lines a second", "cat", "of cat");
+    println!(
+        "\nThe line program, kernels by turns: lines a second beside `cat`, and how many times its time.\n"
+    );
+    println!("{}", table_head(&["Picture", "Line program", "`cat`", "Times `cat`"]));
     for input in INPUTS {
         println!("{}", line_program(&program, input, rounds)?);
     }

@@ -151,14 +151,26 @@ pub fn picture(width: usize, height: usize, setting: crate::second::Setting, sam
     exact
 }
 
-/// Whether every sample lies within demand 3's limit of the exact picture: 3/2, 2 or 10 units.
-pub fn within_limits(kernel: u32, result: &[i32], exact: &Fractions) -> bool {
-    let (times, limit) = [(2, 3), (1, 2), (1, 10)][kernel as usize];
-    let most = exact.over.times(limit);
+/// Whether every sample lies within `most`/`times` units of its fraction.
+fn within(result: &[i32], exact: &Fractions, most: i64, times: i64) -> bool {
+    let most = exact.over.times(most);
     result.iter().zip(&exact.numbers).all(|(&v, number)| {
         let off = exact.over.times(i64::from(v)).minus(number).times(times);
         off.magnitude_at_most(&most)
     })
+}
+
+/// Whether every sample lies within demand 3's limit of the exact picture: 3/2, 2 or 10 units.
+pub fn within_limits(kernel: u32, result: &[i32], exact: &Fractions) -> bool {
+    let (most, times) = [(3, 2), (2, 1), (10, 1)][kernel as usize];
+    within(result, exact, most, times)
+}
+
+/// Whether every sample of a moved line is its fraction rounded once, to within 1/2 unit. Kernel 2 adds
+/// 1/4: its weights are not negative, and each coefficient is within 4 of 16 times the exact one.
+pub fn line_within_limits(kernel: u32, result: &[i32], exact: &Fractions) -> bool {
+    let (most, times) = [(1, 2), (1, 2), (3, 4)][kernel as usize];
+    within(result, exact, most, times)
 }
 
 /// Whether every sample equals the exact picture's fraction.
@@ -200,5 +212,10 @@ mod tests {
         assert!(equal(&[5, 6], &picture(2, 1, setting_kept, &[5, 6])));
         assert!(!equal(&[5, 7], &picture(2, 1, setting_kept, &[5, 6])));
         assert!(!within_limits(0, &[0, 100, 200, 300], &exact));
+        // 2/3 of a unit is more than one rounding, and less than a rounding and a quarter.
+        let thirds = Fractions { numbers: vec![Whole::from(5)], over: Whole::from(3) };
+        assert!([0, 1].iter().all(|&kernel| line_within_limits(kernel, &[2], &thirds)));
+        assert!([0, 1].iter().all(|&kernel| !line_within_limits(kernel, &[1], &thirds)));
+        assert!(line_within_limits(2, &[1], &thirds) && !line_within_limits(2, &[0], &thirds));
     }
 }

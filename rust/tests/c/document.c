@@ -129,6 +129,27 @@ static void refusals(void)
     printf("refusals: %u %u %u %u %u %u %u %u %u\n", n[1], n[2], n[3], n[4], n[5], n[6], n[7], n[8], n[9]);
 }
 
+static int set(straightener_setting s, uint32_t kernel, size_t cx, size_t cy, int32_t a, int32_t b)
+{
+    return s.kernel == kernel && s.cx == cx && s.cy == cy && s.a == a && s.b == b;
+}
+
+static void settings(void)
+{
+    straightener_setting s = {STRAIGHTENER_KEYS, 3, 4, -5, 6};
+    expect(set(straightener_with_kernel(s, STRAIGHTENER_SPLINE), 2, 3, 4, -5, 6));
+    expect(set(straightener_with_kernel(s, UINT32_MAX), UINT32_MAX, 3, 4, -5, 6));
+    expect(set(straightener_with_centre(s, 320, 240), 1, 320, 240, -5, 6));
+    expect(set(straightener_with_centre(s, SIZE_MAX, 0), 1, SIZE_MAX, 0, -5, 6));
+    expect(set(straightener_with_centre(s, 0, SIZE_MAX), 1, 0, SIZE_MAX, -5, 6));
+    expect(set(straightener_with_shears(s, 4096, -4096), 1, 3, 4, 4096, -4096));
+    expect(set(straightener_with_shears(s, INT32_MIN, INT32_MAX), 1, 3, 4, INT32_MIN, INT32_MAX));
+    s = straightener_with_kernel(straightener_with_centre(straightener_with_shears(s, 7, 8), 9, 10), 0);
+    s = straightener_with_kernel(straightener_with_centre(straightener_with_shears(s, 11, 12), 13, 14), 2);
+    printf("settings: kernel %u, column %zu, row %zu, shears %d and %d\n", (unsigned)s.kernel, s.cx, s.cy,
+           (int)s.a, (int)s.b);
+}
+
 static void steps(void)
 {
     straightener_setting setting = {7, SIZE_MAX, 5, -11, 13};
@@ -180,6 +201,7 @@ int main(void)
     lines();
     pictures();
     refusals();
+    settings();
     steps();
     readings();
     line_format();

@@ -55,6 +55,9 @@ pub trait Implementation {
         result: &mut [i32],
         work: &mut [i32],
     ) -> Answer;
+    fn with_kernel(&self, setting: Setting, kernel: u32) -> Setting;
+    fn with_centre(&self, setting: Setting, cx: usize, cy: usize) -> Setting;
+    fn with_shears(&self, setting: Setting, a: i32, b: i32) -> Setting;
     fn with_step(&self, setting: Setting, t: i32) -> (u32, Setting);
     fn sine(&self, t: i32) -> (u32, i32);
     fn level(&self, x1: i32, y1: i32, x2: i32, y2: i32) -> (u32, i32);
@@ -109,6 +112,18 @@ impl Implementation for Second {
         work: &mut [i32],
     ) -> Answer {
         answer(second::move_line(n, kernel, d, line, result, work))
+    }
+
+    fn with_kernel(&self, setting: Setting, kernel: u32) -> Setting {
+        setting.with_kernel(kernel)
+    }
+
+    fn with_centre(&self, setting: Setting, cx: usize, cy: usize) -> Setting {
+        setting.with_centre(cx, cy)
+    }
+
+    fn with_shears(&self, setting: Setting, a: i32, b: i32) -> Setting {
+        setting.with_shears(a, b)
     }
 
     fn with_step(&self, setting: Setting, t: i32) -> (u32, Setting) {
@@ -177,6 +192,13 @@ pub fn raw_setting(setting: Setting) -> raw::Setting {
     raw::Setting { kernel, cx, cy, a, b }
 }
 
+/// The second implementation's form of a setting.
+#[cfg(feature = "library")]
+pub fn plain_setting(setting: raw::Setting) -> Setting {
+    let raw::Setting { kernel, cx, cy, a, b } = setting;
+    Setting { kernel, cx, cy, a, b }
+}
+
 #[cfg(feature = "library")]
 impl Implementation for Library {
     fn straighten(
@@ -202,10 +224,21 @@ impl Implementation for Library {
         raw::move_line(n, kernel, d, line, result, work).into()
     }
 
+    fn with_kernel(&self, setting: Setting, kernel: u32) -> Setting {
+        plain_setting(raw::with_kernel(raw_setting(setting), kernel))
+    }
+
+    fn with_centre(&self, setting: Setting, cx: usize, cy: usize) -> Setting {
+        plain_setting(raw::with_centre(raw_setting(setting), cx, cy))
+    }
+
+    fn with_shears(&self, setting: Setting, a: i32, b: i32) -> Setting {
+        plain_setting(raw::with_shears(raw_setting(setting), a, b))
+    }
+
     fn with_step(&self, setting: Setting, t: i32) -> (u32, Setting) {
         let change = raw::with_step(raw_setting(setting), t);
-        let raw::Setting { kernel, cx, cy, a, b } = change.setting;
-        (change.number, Setting { kernel, cx, cy, a, b })
+        (change.number, plain_setting(change.setting))
     }
 
     fn sine(&self, t: i32) -> (u32, i32) {
