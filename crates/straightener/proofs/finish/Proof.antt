@@ -18,9 +18,9 @@ returns : tie.Need-returns
 returns c =
     let how = c .told .ensures in
     record {
-      done = λ e. ended-not-more _ (sym how ∙ e);
+      done = λ e. ended-not-more (c .before .hand-over .result .all) (sym how ∙ e);
       last = rw (c .before .hand-over .ensures) (c .before .before .before .before .last .ensures);
-      told = λ e. how ∙ failure-told _ _ e;
+      told = λ e. how ∙ failure-told (c .before .hand-over .result .all) _ e;
     }
 
 pub finish-spec : {M : Type 1} → statement M

@@ -19,8 +19,8 @@ returns c =
     let how = c .told .ensures in
     record {
       more = λ e. rw (c .before .hand-over .ensures) (c .before .before .before .before .turn .ensures .reads);
-      ended = λ e. absurd (more-not-ended _ (sym how ∙ e));
-      told = λ e. how ∙ failure-told _ _ e;
+      ended = λ e. absurd (more-not-ended (c .before .hand-over .result .all) (sym how ∙ e));
+      told = λ e. how ∙ failure-told (c .before .hand-over .result .all) _ e;
     }
 
 pub serve-spec : {M : Type 1} → statement M
