@@ -9,6 +9,7 @@ use borrow.Author.Tests.{leb-false, lt-leb, le-ltb, ne-eqb}
 use lib.Dec.{leb}
 use lib.IntN.{ℤ, natAbs}
 use lib.ListN.{length}
+use Rattle.lists.specs.Line.{line}
 use Rattle.refusals.specs.declared.Found.{Found}
 use Rattle.refusals.specs.declared.Found.the-variants.{Nothing, At}
 use Rattle.refusals.specs.declared.Verdict.{Verdict}
@@ -37,32 +38,13 @@ shears-within : (s : Setting) → badShears s ≡ false → (natAbs (s .a) ≤ 4
 unfolding badShears
 shears-within s e = let a = or-false (beyondOf 4096 (s .a)) _ e in (beyond-good (s .a) (a .0), beyond-good (s .b) (a .1))
 
-module _ (W H : ℕ) (s : Setting) (picture : List ℤ) (result work : ℕ) where
-  -- accepted, a call passes every test
-  pub accepted-fit : judged W H s picture result work ≡ Accepted → Fit W H s picture result work
-  unfolding judged
-  accepted-fit e =
-      let one = refusedIf-accepted (badSize W H) 1 _ e in
-      let two = refusedIf-accepted (tooShort W H (length picture) result work) 2 _ (one .1) in
-      let three = refusedIf-accepted (badCentre W H s) 3 _ (two .1) in
-      let four = refusedIf-accepted (badShears s) 4 _ (three .1) in
-      let five = refusedIf-accepted (badKernel (s .kernel)) 5 _ (four .1) in
-      let six = nothing-bad range W H picture .0 (ofFound-accepted (firstBad range W H picture) (five .1)) in
-      let size = size-good (one .0) in
-      let long = long-enough W H (length picture) result work (two .0) in
-      record {
-        width = size .0;
-        height = size .1;
-        picture-places = long .0;
-        result-places = long .1;
-        work-places = long .2;
-        centre = centre-inside W H s (three .0);
-        shears = shears-within s (four .0);
-        kernel = kernel-good (five .0);
-        samples = λ i l. six i (omega (arith, mul-comm W H));
-      }
+-- the range that the passes and demand 3 are proved for
+pub fit-range : {W H : ℕ} {s : Setting} {picture : List ℤ} {result work : ℕ} → Fit W H s picture result work → (i : ℕ) → i < W * H
+    → natAbs (line picture i) ≤ 32767
+fit-range f i l = omega (arith, f .samples i l)
 
-  -- and one that passes them is accepted
+module _ (W H : ℕ) (s : Setting) (picture : List ℤ) (result work : ℕ) where
+  -- a call that passes every test is accepted
   pub fit-accepted : Fit W H s picture result work → judged W H s picture result work ≡ Accepted
   unfolding judged badSize badSide tooShort short badCentre badShears badKernel
   fit-accepted f =
@@ -85,6 +67,30 @@ module _ (W H : ℕ) (s : Setting) (picture : List ℤ) (result work : ℕ) wher
     where
       some : {n : ℕ} → 1 ≤ n → n ≡ 0 → ⊥
       some h e = omega arith
+
+  -- and an accepted one passes every test
+  pub accepted-fit : judged W H s picture result work ≡ Accepted → Fit W H s picture result work
+  unfolding judged
+  accepted-fit e =
+      let one = refusedIf-accepted (badSize W H) 1 _ e in
+      let two = refusedIf-accepted (tooShort W H (length picture) result work) 2 _ (one .1) in
+      let three = refusedIf-accepted (badCentre W H s) 3 _ (two .1) in
+      let four = refusedIf-accepted (badShears s) 4 _ (three .1) in
+      let five = refusedIf-accepted (badKernel (s .kernel)) 5 _ (four .1) in
+      let six = nothing-bad range W H picture .0 (ofFound-accepted (firstBad range W H picture) (five .1)) in
+      let size = size-good (one .0) in
+      let long = long-enough W H (length picture) result work (two .0) in
+      record {
+        width = size .0;
+        height = size .1;
+        picture-places = long .0;
+        result-places = long .1;
+        work-places = long .2;
+        centre = centre-inside W H s (three .0);
+        shears = shears-within s (four .0);
+        kernel = kernel-good (five .0);
+        samples = λ i l. six i (omega (arith, mul-comm W H));
+      }
 
   -- number 6 names the first sample beyond the range, in row order, of a call that passes the tests before it
   pub refused-sample : (y x : ℕ) → judged W H s picture result work ≡ Refused 6 y x → BadAt range W H picture y x

@@ -19,6 +19,7 @@ use Rattle.passes.specs.Count.{count}
 use Rattle.passes.proofs.Stages.{rows-pass, columns-pass, rows-pass-length, columns-pass-length, straighten-stages}
 use Rattle.pictures.specs.Pass.{Movable}
 use Rattle.pictures.specs.Answer.{kernelIn, rowMoves, columnMoves}
+use Rattle.pictures.proofs.Accepted.{fit-range}
 use Rattle.pictures.proofs.Three.{rows-strided, columns-strided, first-range, second-range, third-range}
 use Rattle.pictures.proofs.three_passes.Statement.{statement}
 use Rattle.pictures.proofs.three_passes.Tie as tie
@@ -115,14 +116,14 @@ pass-requires : tie.Need-pass-requires
 pass-requires c κs =
     let s = c .before .before .before .before in
     rw (a-is s)
-    (rows-movable s _ refl, (as-rows s (s .args .picture .now) (s .pre .1), first-range (κ s) (rows s) (columns s) (s .args .picture .now) (wide s) (high s) (s .pre .0 .samples)))
+    (rows-movable s _ refl, (as-rows s (s .args .picture .now) (s .pre .1), first-range (κ s) (rows s) (columns s) (s .args .picture .now) (wide s) (high s) (fit-range (s .pre .0))))
 
 pass-requires-2 : tie.Need-pass-requires-2
 pass-requires-2 c κs =
     let p = c .before .before .before .before in
     let s = p .before .before .before .before .before in
     rw (b-is s, first-is p)
-    (columns-movable s _ (p .pass .kept .1 .0), (as-columns s (once s) (once-long s), second-range (κ s) (rows s) (columns s) (s .args .picture .now) (wide s) (high s) (s .pre .0 .samples)))
+    (columns-movable s _ (p .pass .kept .1 .0), (as-columns s (once s) (once-long s), second-range (κ s) (rows s) (columns s) (s .args .picture .now) (wide s) (high s) (fit-range (s .pre .0))))
 
 pass-requires-3 : tie.Need-pass-requires-3
 pass-requires-3 c κs =
@@ -130,7 +131,7 @@ pass-requires-3 c κs =
     let o = p .before .before .before .before .before in
     let s = o .before .before .before .before .before in
     rw (a-is s, second-is p)
-    (rows-movable s _ (p .pass2 .kept .1 .0 ∙ o .pass .kept .1 .0), (as-rows s (twice s) (twice-long s), third-range (κ s) (rows s) (columns s) (s .args .picture .now) (wide s) (high s) (s .pre .0 .samples)))
+    (rows-movable s _ (p .pass2 .kept .1 .0 ∙ o .pass .kept .1 .0), (as-rows s (twice s) (twice-long s), third-range (κ s) (rows s) (columns s) (s .args .picture .now) (wide s) (high s) (fit-range (s .pre .0))))
 
 add-result : tie.Need-add-result
 add-result c = search needs
