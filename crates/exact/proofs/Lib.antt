@@ -6,6 +6,7 @@
 --     Straighten  the same of lists
 --     Demand      demand 3 of the straightened picture
 --     Limits      demand 3's limits in document 01's numerals
+--     RuledOut    results that do not keep demand 3
 pub mod ExactLine
 pub mod Step
 pub mod Whole
@@ -13,3 +14,4 @@ pub mod Passes
 pub mod Straighten
 pub mod Demand
 pub mod Limits
+pub mod RuledOut
