@@ -1,6 +1,6 @@
 -- A call is accepted just where no number applies. Assumes nothing.
 use Prim.Native.Nat.{ℕ, _*_, _≤_, _<_, max}
-use mathlib.Core.Path.{_≡_, refl}
+use mathlib.Core.Path.{_≡_, refl, ap}
 use mathlib.Core.Bool.{Bool, true, false}
 use mathlib.Core.List.{List}
 use native.Mathlib.Nat.{mul-comm}
@@ -46,27 +46,34 @@ fit-range f i l = omega (arith, f .samples i l)
 module _ (W H : ℕ) (s : Setting) (picture : List ℤ) (result work : ℕ) where
   -- a call that passes every test is accepted
   pub fit-accepted : Fit W H s picture result work → judged W H s picture result work ≡ Accepted
-  unfolding judged badSize badSide tooShort short badCentre badShears badKernel
-  fit-accepted f =
-      rw (
-        ne-eqb W 0 (some (f .width .0)),
-        le-ltb 1024 W (f .width .1),
-        ne-eqb H 0 (some (f .height .0)),
-        le-ltb 1024 H (f .height .1),
-        le-ltb (length picture) (W * H) (f .picture-places),
-        le-ltb result (W * H) (f .result-places),
-        le-ltb work (4 * max W H) (f .work-places),
-        lt-leb W (s .cx) (f .centre .0),
-        lt-leb H (s .cy) (f .centre .1),
-        good-beyond (s .a) (f .shears .0),
-        good-beyond (s .b) (f .shears .1),
-        le-ltb 2 (s .kernel) (f .kernel),
-        nothing-bad range W H picture .1 (λ i l. f .samples i (omega (arith, mul-comm W H))),
-      )
-      refl
+  unfolding judged
+  fit-accepted f = passed 1 size (passed 2 buffers (passed 3 centre (passed 4 shears (passed 5 kernel (ap ofFound samples)))))
     where
+      passed : {t : Bool} (number : ℕ) {later : Verdict} → t ≡ false → later ≡ Accepted → refusedIf t number later ≡ Accepted
+      passed number e l = rw e l
+
       some : {n : ℕ} → 1 ≤ n → n ≡ 0 → ⊥
       some h e = omega arith
+
+      size : badSize W H ≡ false
+      size = unfold badSize badSide in
+          rw (ne-eqb W 0 (some (f .width .0)), le-ltb 1024 W (f .width .1), ne-eqb H 0 (some (f .height .0)), le-ltb 1024 H (f .height .1)) refl
+
+      buffers : tooShort W H (length picture) result work ≡ false
+      buffers = unfold tooShort short in
+          rw (le-ltb (length picture) (W * H) (f .picture-places), le-ltb result (W * H) (f .result-places), le-ltb work (4 * max W H) (f .work-places)) refl
+
+      centre : badCentre W H s ≡ false
+      centre = unfold badCentre in rw (lt-leb W (s .cx) (f .centre .0), lt-leb H (s .cy) (f .centre .1)) refl
+
+      shears : badShears s ≡ false
+      shears = unfold badShears in rw (good-beyond (s .a) (f .shears .0), good-beyond (s .b) (f .shears .1)) refl
+
+      kernel : badKernel (s .kernel) ≡ false
+      kernel = unfold badKernel in le-ltb 2 (s .kernel) (f .kernel)
+
+      samples : firstBad range W H picture ≡ Nothing
+      samples = nothing-bad range W H picture .1 (λ i l. f .samples i (omega (arith, mul-comm W H)))
 
   -- and an accepted one passes every test
   pub accepted-fit : judged W H s picture result work ≡ Accepted → Fit W H s picture result work
