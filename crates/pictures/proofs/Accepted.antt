@@ -15,7 +15,7 @@ use Rattle.refusals.specs.declared.Found.the-variants.{Nothing, At}
 use Rattle.refusals.specs.declared.Verdict.{Verdict}
 use Rattle.refusals.specs.declared.Verdict.the-variants.{Accepted, Refused}
 use Rattle.refusals.specs.Tests.{badSide, badSize, short, badKernel, beyondOf, firstBad}
-use Rattle.refusals.specs.Judging.{refusedIf, ofFound}
+use Rattle.refusals.specs.Judging.{refusedIf, ofFound, numberOf, rowOf, columnOf}
 use Rattle.refusals.proofs.Tests.{or-false, size-good, short-good, kernel-good, beyond-good, good-beyond}
 use Rattle.refusals.proofs.Judging.{refusedIf-accepted, ofFound-accepted}
 use Rattle.refusals.proofs.First.{nothing-bad, BadAt, first-bad}
@@ -42,6 +42,18 @@ shears-within s e = let a = or-false (beyondOf 4096 (s .a)) _ e in (beyond-good 
 pub fit-range : {W H : ℕ} {s : Setting} {picture : List ℤ} {result work : ℕ} → Fit W H s picture result work → (i : ℕ) → i < W * H
     → natAbs (line picture i) ≤ 32767
 fit-range f i l = omega (arith, f .samples i l)
+
+-- row and column are 0 except under 6
+abbrev ZeroButSix : Verdict → Type 0
+ZeroButSix v = (numberOf v ≡ 6 → ⊥) → (rowOf v ≡ 0) × (columnOf v ≡ 0)
+
+zero-if : (t : Bool) (number : ℕ) (later : Verdict) → ZeroButSix later → ZeroButSix (refusedIf t number later)
+zero-if true number later z other = (refl, refl)
+zero-if false number later z other = z other
+
+zero-found : (f : Found) → ZeroButSix (ofFound f)
+zero-found Nothing other = (refl, refl)
+zero-found (At row column) other = absurd (other refl)
 
 module _ (W H : ℕ) (s : Setting) (picture : List ℤ) (result work : ℕ) where
   -- a call that passes every test is accepted
@@ -120,3 +132,10 @@ module _ (W H : ℕ) (s : Setting) (picture : List ℤ) (result work : ℕ) wher
           let p : row ≡ y = cc in
           let q : column ≡ x = cc in
           cc
+
+  -- and no other number names a place
+  pub refused-zero : ZeroButSix (judged W H s picture result work)
+  unfolding judged
+  refused-zero =
+      zero-if (badSize W H) 1 _ (zero-if (tooShort W H (length picture) result work) 2 _ (zero-if (badCentre W H s) 3 _ (zero-if (badShears s) 4 _
+      (zero-if (badKernel (s .kernel)) 5 _ (zero-found (firstBad range W H picture))))))

@@ -7,7 +7,10 @@ use lib.IntN.{ℤ, pos, natAbs}
 use lib.ListN.{length, take, drop, replicate}
 use lib.Seq.{getD-take, length-take-le, take-at}
 use Rattle.lists.specs.Line.{line}
+use Rattle.refusals.specs.declared.Verdict.{Verdict}
 use Rattle.refusals.specs.declared.Verdict.the-variants.{Accepted, Refused}
+use Rattle.refusals.specs.Judging as verdict
+use Rattle.refusals.proofs.First.{BadAt}
 use Rattle.settings.specs.declared.Setting.{Setting}
 use Rattle.kernels.specs.Kernel.{Kernel}
 use Rattle.passes.specs.Picture.{picture, straighten, Places, rows-moved}
@@ -19,10 +22,11 @@ use Rattle.passes.proofs.Stages.{rows-pass, columns-pass, rows-pass-length, str
 use Rattle.exact.specs.Limits.{Demand3}
 use Rattle.exact.proofs.Straighten.{straighten-size}
 use Rattle.exact.proofs.Demand.{straighten-demand3}
-use Rattle.pictures.specs.Judge.{Fit}
-use Rattle.pictures.specs.Answer.{kernelIn, rowMoves, columnMoves, verdictOf, Answer}
+use Rattle.pictures.specs.declared.Outcome.{Outcome}
+use Rattle.pictures.specs.Judge.{range, Fit}
+use Rattle.pictures.specs.Answer.{numberOf, rowOf, columnOf, kernelIn, rowMoves, columnMoves, verdictOf, Answer}
 use Rattle.pictures.specs.declared.Outcome.the-variants as variants
-use Rattle.pictures.proofs.Accepted.{accepted-fit, fit-range}
+use Rattle.pictures.proofs.Accepted.{accepted-fit, fit-range, refused-sample, refused-zero}
 
 -- ---- the places of the picture after its first W·H are not read
 module _ (κ : Kernel) (W H : ℕ) (rows columns : ℕ → ℤ) (s : List ℤ) (hW : 0 < W) (hH : 0 < H) where
@@ -121,3 +125,19 @@ module _ (W H : ℕ) (s : Setting) (picture result work : List ℤ) where
           ap (take (W * H)) done
           ∙ take-at (straighten κ W H rows columns (take (W * H) picture)) (drop (W * H) result) (W * H) (straighten-length κ W H rows columns (take (W * H) picture) (f .width .0) (f .height .0))
           ∙ straighten-takes κ W H rows columns picture (f .width .0) (f .height .0)
+
+-- ---- the row and the column of an answer: those of the first sample beyond the range, in row order, under 6, and 0 otherwise
+six : (v : Verdict) → verdict.numberOf v ≡ 6 → v ≡ Refused 6 (verdict.rowOf v) (verdict.columnOf v)
+six Accepted e = absurd (omega arith)
+six (Refused number row column) e = ap (λ n. Refused n row column) e
+
+module _ {W H : ℕ} {s : Setting} {picture result work : List ℤ} {r : Outcome} {result′ work′ : List ℤ} (a : Answer W H s picture result work r result′ work′) where
+  pub sample-named : numberOf r ≡ 6 → BadAt range W H picture (rowOf r) (columnOf r)
+  sample-named e =
+      let v = verdictOf W H s picture result work in
+      rw (a .row, a .column) (refused-sample W H s picture (length result) (length work) (verdict.rowOf v) (verdict.columnOf v) (six v (sym (a .number) ∙ e)))
+
+  pub elsewhere-zero : (numberOf r ≡ 6 → ⊥) → (rowOf r ≡ 0) × (columnOf r ≡ 0)
+  elsewhere-zero other =
+      let z = refused-zero W H s picture (length result) (length work) (λ e. other (a .number ∙ e)) in
+      (a .row ∙ z .0, a .column ∙ z .1)
