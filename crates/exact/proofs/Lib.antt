@@ -5,7 +5,7 @@
 --     Passes      three passes: 3/2, 2, 10
 --     Straighten  the same of lists
 --     Demand      demand 3 of the straightened picture
---     Limits      demand 3's limits in document 01's numerals
+--     Limits      demand 3 in document 01's numerals
 --     RuledOut    results that do not keep demand 3
 pub mod ExactLine
 pub mod Step
