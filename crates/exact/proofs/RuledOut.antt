@@ -1,9 +1,9 @@
 -- What demand 3 rules out. A result that keeps it lies within 3, 4 or 20 units of the straightened picture at every place, by kernel, so that
 -- on a picture of some contrast none of document 01's worthless or wrong results below keeps it. Assumes nothing.
-use mathlib.Core.Path.{_≡_, refl, sym, ap, _∙_}
+use mathlib.Core.Path.{_≡_, sym, ap, _∙_}
 use mathlib.Core.Bool.{Bool, true, false, _&&_}
 use mathlib.Core.List.{List, [], _∷_, map}
-use Prim.Native.Nat.{ℕ, zero, suc, _+_, _*_, _≤_, _<_}
+use Prim.Native.Nat.{ℕ, zero, suc, _*_, _≤_, _<_}
 use native.Mathlib.Nat.{mul-le-mul-right}
 use native.Mathlib.Omega.{arith, by-contra}
 use lib.Dec.{T, leb, leb→le, lit<}
@@ -15,7 +15,7 @@ use Rattle.arith.specs.Sum.{Σ}
 use Rattle.arith.specs.Move.{fraction, whole}
 use Rattle.arith.proofs.Bridge.{bridge, all1, all3}
 use Rattle.arith.proofs.Laws.{natAbs-*ℤ, natAbs-swap, natAbs-past}
-use Rattle.lists.specs.Line.{Line, line, wrap}
+use Rattle.lists.specs.Line.{line, wrap}
 use Rattle.lists.specs.Tab.{tab}
 use Rattle.kernels.specs.Kernel.{Kernel, Keys, Spline, norm, D³, weigh}
 use Rattle.spline.specs.Coefficients.{filter, run, u, down, back, v, scaled, coefficient}

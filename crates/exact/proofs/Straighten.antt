@@ -1,11 +1,10 @@
 -- The straightened picture and the exact picture as lists of W·H numbers, row by row: what a contract cites. Assumes nothing.
-use mathlib.Core.Path.{_≡_, sym, ap, ap₂, _∙_, subst, subst₂}
+use mathlib.Core.Path.{_≡_, sym, _∙_, subst, subst₂}
 use mathlib.Core.List.{List}
-use Prim.Native.Nat.{ℕ, _+_, _*_, _/_, _%_, _≤_, _<_}
+use Prim.Native.Nat.{ℕ, _+_, _*_, _≤_, _<_}
 use native.Mathlib.Omega.{arith}
 use lib.IntN.{ℤ, pos, natAbs, _-ℤ_, _*ℤ_}
 use lib.Signed.{_<ℤ_}
-use lib.ListN.{length}
 use Rattle.arith.proofs.Bridge.{bridge, all1, all2}
 use Rattle.lists.specs.Line.{Line, line}
 use Rattle.passes.proofs.Places.{inside, length-pictured, pictured-at, picture-pictured, picture-at, at-index}
