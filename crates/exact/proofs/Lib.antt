@@ -5,9 +5,13 @@
 --     Passes      three passes: 3/2, 2, 10
 --     Straighten  the same of lists
 --     Demand      demand 3 of the straightened picture
+--     Limits      demand 3 in document 01's numerals
+--     RuledOut    results that do not keep demand 3
 pub mod ExactLine
 pub mod Step
 pub mod Whole
 pub mod Passes
 pub mod Straighten
 pub mod Demand
+pub mod Limits
+pub mod RuledOut

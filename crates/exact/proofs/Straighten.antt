@@ -1,11 +1,10 @@
 -- The straightened picture and the exact picture as lists of W·H numbers, row by row: what a contract cites. Assumes nothing.
-use mathlib.Core.Path.{_≡_, sym, ap, ap₂, _∙_, subst₂}
+use mathlib.Core.Path.{_≡_, sym, _∙_, subst, subst₂}
 use mathlib.Core.List.{List}
-use Prim.Native.Nat.{ℕ, _+_, _*_, _/_, _%_, _≤_, _<_}
+use Prim.Native.Nat.{ℕ, _+_, _*_, _≤_, _<_}
 use native.Mathlib.Omega.{arith}
 use lib.IntN.{ℤ, pos, natAbs, _-ℤ_, _*ℤ_}
 use lib.Signed.{_<ℤ_}
-use lib.ListN.{length}
 use Rattle.arith.proofs.Bridge.{bridge, all1, all2}
 use Rattle.lists.specs.Line.{Line, line}
 use Rattle.passes.proofs.Places.{inside, length-pictured, pictured-at, picture-pictured, picture-at, at-index}
@@ -54,11 +53,20 @@ module _ (κ : Kernel) {W H : ℕ} (rows columns : ℕ → ℤ) (s : List ℤ) (
       subst₂ (λ x x′. x *ℤ Q′ ≡ x′ *ℤ Q) (picture-at W E i) (picture-at W E′ i) (at-index (λ y x. picture W E y x *ℤ Q′ ≡ picture W E′ y x *ℤ Q) hW
       (exact-picture-only hW hH (a .exact) (a′ .exact) .place) i l)
 
-  module _ {E : List ℤ} {Q : ℤ} (range : (i : ℕ) → i < W * H → natAbs (line s i) ≤ 32767) (a : ExactList κ W H rows columns s E Q) where
+  module _ (range : (i : ℕ) → i < W * H → natAbs (line s i) ≤ 32767) where
     in-range : Places W H (λ y x. Within (pos 32767) (picture W s y x))
     unfolding picture
     in-range y x hy hx = size-within (line s (y * W + x)) 32767 (range (y * W + x) (inside W H y x hy hx))
 
+    -- the result is within the range for readings
+    pub straighten-size : (i : ℕ) → i < W * H → natAbs (line (straighten κ W H rows columns s) i) ≤ 1048576
+    unfolding straighten
+    straighten-size i l =
+        within-size (line (straighten κ W H rows columns s) i) 1048576
+        (subst (Within (pos 1048576)) (sym (pictured-at W H (straightened κ W H rows columns (picture W s)) i l))
+        (at-index (λ y x. Within (pos 1048576) (straightened κ W H rows columns (picture W s) y x)) hW (straightened-reach κ rows columns hW hH in-range) i l))
+
+  module _ {E : List ℤ} {Q : ℤ} (range : (i : ℕ) → i < W * H → natAbs (line s i) ≤ 32767) (a : ExactList κ W H rows columns s E Q) where
     -- a statement about a place of the straightened picture and of the exact one, at an index
     carried : (A : ℤ → ℤ → Type 0) → Places W H (λ y x. A (straightened κ W H rows columns (picture W s) y x) (picture W E y x)) → (i : ℕ)
         → i < W * H → A (line (straighten κ W H rows columns s) i) (line E i)
@@ -67,15 +75,11 @@ module _ (κ : Kernel) {W H : ℕ} (rows columns : ℕ → ℤ) (s : List ℤ) (
         subst₂ A (sym (pictured-at W H (straightened κ W H rows columns (picture W s)) i l)) (picture-at W E i) (at-index (λ y x. A
         (straightened κ W H rows columns (picture W s) y x) (picture W E y x)) hW each i l)
 
-    pub straighten-size : (i : ℕ) → i < W * H → natAbs (line (straighten κ W H rows columns s) i) ≤ 1048576
-    straighten-size i l =
-        within-size (line (straighten κ W H rows columns s) i) 1048576 (carried (λ v e. Within (pos 1048576) v) (straightened-reach κ rows columns hW hH in-range) i l)
-
     -- 2·|v·Q - E| ≤ 3·Q, 4·Q or 20·Q
     pub straighten-near : (i : ℕ) → i < W * H → 2 * natAbs (line (straighten κ W H rows columns s) i *ℤ Q -ℤ line E i) ≤ limit κ * natAbs Q
     straighten-near i l =
         size κ (line (straighten κ W H rows columns s) i *ℤ Q -ℤ line E i) Q (a .exact .third .positive) (carried (λ v e. Within (pos (limit κ) *ℤ Q)
-        (pos 2 *ℤ (v *ℤ Q -ℤ e))) (straightened-near hW hH in-range (a .exact)) i l)
+        (pos 2 *ℤ (v *ℤ Q -ℤ e))) (straightened-near hW hH (in-range range) (a .exact)) i l)
       where
         size : (κ : Kernel) (x Q : ℤ) → pos 0 <ℤ Q → Within (pos (limit κ) *ℤ Q) (pos 2 *ℤ x) → 2 * natAbs x ≤ limit κ * natAbs Q
         size Linear = all2 _ (simp bridge (omega arith))
@@ -87,7 +91,7 @@ module _ (κ : Kernel) {W H : ℕ} (rows columns : ℕ → ℤ) (s : List ℤ) (
         → 64 * natAbs (line (straighten κ W H rows columns s) i *ℤ Q -ℤ line E i) ≤ sharp κ * natAbs Q
     straighten-sharp i l =
         size κ (line (straighten κ W H rows columns s) i *ℤ Q -ℤ line E i) Q (a .exact .third .positive)
-        (carried (λ v e. Within (pos (sharp κ) *ℤ Q) (pos 64 *ℤ (v *ℤ Q -ℤ e))) (straightened-sharp hW hH in-range (a .exact)) i l)
+        (carried (λ v e. Within (pos (sharp κ) *ℤ Q) (pos 64 *ℤ (v *ℤ Q -ℤ e))) (straightened-sharp hW hH (in-range range) (a .exact)) i l)
       where
         size : (κ : Kernel) (x Q : ℤ) → pos 0 <ℤ Q → Within (pos (sharp κ) *ℤ Q) (pos 64 *ℤ x) → 64 * natAbs x ≤ sharp κ * natAbs Q
         size Linear = all2 _ (simp bridge (omega arith))
@@ -104,9 +108,9 @@ module _ (κ : Kernel) {W H : ℕ} (rows columns : ℕ → ℤ) (s : List ℤ) (
 
     pub straighten-whole : ((y : ℕ) → y < H → fraction (rows y) ≡ 0) → ((x : ℕ) → x < W → fraction (columns x) ≡ 0) → (i : ℕ) → i < W * H
         → line (straighten κ W H rows columns s) i *ℤ Q ≡ line E i
-    straighten-whole hr hc = equal-at (exact-whole hW hH in-range (a .exact) hr hc)
+    straighten-whole hr hc = equal-at (exact-whole hW hH (in-range range) (a .exact) hr hc)
 
     pub straighten-grey : (g : ℤ) → ((i : ℕ) → i < W * H → line s i ≡ g) → (i : ℕ) → i < W * H
         → line (straighten κ W H rows columns s) i *ℤ Q ≡ line E i
     unfolding picture
-    straighten-grey g grey = equal-at (exact-grey hW hH in-range (a .exact) g (λ y x hy hx. grey (y * W + x) (inside W H y x hy hx)))
+    straighten-grey g grey = equal-at (exact-grey hW hH (in-range range) (a .exact) g (λ y x hy hx. grey (y * W + x) (inside W H y x hy hx)))

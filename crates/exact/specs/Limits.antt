@@ -32,8 +32,8 @@ Equals W H v E Q = (i : ℕ) → i < W * H → line v i *ℤ Q ≡ line E i
 -- Demand 3 of the result v of straightening the samples s. There is an exact picture E over Q (`exact`), worked out from s and the moves
 -- alone; any two are the same fractions (`one`); from every one v keeps its limit at each place, 2·|v·Q - E| ≤ 3·Q, 4·Q or 20·Q (`near`);
 -- v·Q = E at each place for a picture of one grey (`grey`) and for whole moves (`whole`).
--- Ruled out: a picture handed back unturned, one sheared in pass 1 and copied in passes 2 and 3, a flat grey, coefficients computed once
--- for all passes, samples held to 0 to 255 greys between passes.
+-- Ruled out, as `RuledOut` in proofs/ shows: a picture handed back unturned, one sheared in pass 1 and copied in passes 2 and 3, a flat
+-- grey, coefficients computed once for all passes, samples held to 0 to 255 greys between passes.
 pub record Demand3 (κ : Kernel) (W H : ℕ) (rows columns : ℕ → ℤ) (s v : List ℤ) : Type 0 where
   pub E : List ℤ
   pub Q : ℤ

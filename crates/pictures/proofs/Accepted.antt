@@ -1,6 +1,6 @@
 -- A call is accepted just where no number applies. Assumes nothing.
 use Prim.Native.Nat.{ℕ, _*_, _≤_, _<_, max}
-use mathlib.Core.Path.{_≡_, refl}
+use mathlib.Core.Path.{_≡_, refl, ap}
 use mathlib.Core.Bool.{Bool, true, false}
 use mathlib.Core.List.{List}
 use native.Mathlib.Nat.{mul-comm}
@@ -9,12 +9,13 @@ use borrow.Author.Tests.{leb-false, lt-leb, le-ltb, ne-eqb}
 use lib.Dec.{leb}
 use lib.IntN.{ℤ, natAbs}
 use lib.ListN.{length}
+use Rattle.lists.specs.Line.{line}
 use Rattle.refusals.specs.declared.Found.{Found}
 use Rattle.refusals.specs.declared.Found.the-variants.{Nothing, At}
 use Rattle.refusals.specs.declared.Verdict.{Verdict}
 use Rattle.refusals.specs.declared.Verdict.the-variants.{Accepted, Refused}
 use Rattle.refusals.specs.Tests.{badSide, badSize, short, badKernel, beyondOf, firstBad}
-use Rattle.refusals.specs.Judging.{refusedIf, ofFound}
+use Rattle.refusals.specs.Judging.{refusedIf, ofFound, numberOf, rowOf, columnOf}
 use Rattle.refusals.proofs.Tests.{or-false, size-good, short-good, kernel-good, beyond-good, good-beyond}
 use Rattle.refusals.proofs.Judging.{refusedIf-accepted, ofFound-accepted}
 use Rattle.refusals.proofs.First.{nothing-bad, BadAt, first-bad}
@@ -37,8 +38,56 @@ shears-within : (s : Setting) → badShears s ≡ false → (natAbs (s .a) ≤ 4
 unfolding badShears
 shears-within s e = let a = or-false (beyondOf 4096 (s .a)) _ e in (beyond-good (s .a) (a .0), beyond-good (s .b) (a .1))
 
+-- the range that the passes and demand 3 are proved for
+pub fit-range : {W H : ℕ} {s : Setting} {picture : List ℤ} {result work : ℕ} → Fit W H s picture result work → (i : ℕ) → i < W * H
+    → natAbs (line picture i) ≤ 32767
+fit-range f i l = omega (arith, f .samples i l)
+
+-- row and column are 0 except under 6
+abbrev ZeroButSix : Verdict → Type 0
+ZeroButSix v = (numberOf v ≡ 6 → ⊥) → (rowOf v ≡ 0) × (columnOf v ≡ 0)
+
+zero-if : (t : Bool) (number : ℕ) (later : Verdict) → ZeroButSix later → ZeroButSix (refusedIf t number later)
+zero-if true number later z other = (refl, refl)
+zero-if false number later z other = z other
+
+zero-found : (f : Found) → ZeroButSix (ofFound f)
+zero-found Nothing other = (refl, refl)
+zero-found (At row column) other = absurd (other refl)
+
 module _ (W H : ℕ) (s : Setting) (picture : List ℤ) (result work : ℕ) where
-  -- accepted, a call passes every test
+  -- a call that passes every test is accepted
+  pub fit-accepted : Fit W H s picture result work → judged W H s picture result work ≡ Accepted
+  unfolding judged
+  fit-accepted f = passed 1 size (passed 2 buffers (passed 3 centre (passed 4 shears (passed 5 kernel (ap ofFound samples)))))
+    where
+      passed : {t : Bool} (number : ℕ) {later : Verdict} → t ≡ false → later ≡ Accepted → refusedIf t number later ≡ Accepted
+      passed number e l = rw e l
+
+      some : {n : ℕ} → 1 ≤ n → n ≡ 0 → ⊥
+      some h e = omega arith
+
+      size : badSize W H ≡ false
+      size = unfold badSize badSide in
+          rw (ne-eqb W 0 (some (f .width .0)), le-ltb 1024 W (f .width .1), ne-eqb H 0 (some (f .height .0)), le-ltb 1024 H (f .height .1)) refl
+
+      buffers : tooShort W H (length picture) result work ≡ false
+      buffers = unfold tooShort short in
+          rw (le-ltb (length picture) (W * H) (f .picture-places), le-ltb result (W * H) (f .result-places), le-ltb work (4 * max W H) (f .work-places)) refl
+
+      centre : badCentre W H s ≡ false
+      centre = unfold badCentre in rw (lt-leb W (s .cx) (f .centre .0), lt-leb H (s .cy) (f .centre .1)) refl
+
+      shears : badShears s ≡ false
+      shears = unfold badShears in rw (good-beyond (s .a) (f .shears .0), good-beyond (s .b) (f .shears .1)) refl
+
+      kernel : badKernel (s .kernel) ≡ false
+      kernel = unfold badKernel in le-ltb 2 (s .kernel) (f .kernel)
+
+      samples : firstBad range W H picture ≡ Nothing
+      samples = nothing-bad range W H picture .1 (λ i l. f .samples i (omega (arith, mul-comm W H)))
+
+  -- and an accepted one passes every test
   pub accepted-fit : judged W H s picture result work ≡ Accepted → Fit W H s picture result work
   unfolding judged
   accepted-fit e =
@@ -62,30 +111,6 @@ module _ (W H : ℕ) (s : Setting) (picture : List ℤ) (result work : ℕ) wher
         samples = λ i l. six i (omega (arith, mul-comm W H));
       }
 
-  -- and one that passes them is accepted
-  pub fit-accepted : Fit W H s picture result work → judged W H s picture result work ≡ Accepted
-  unfolding judged badSize badSide tooShort short badCentre badShears badKernel
-  fit-accepted f =
-      rw (
-        ne-eqb W 0 (some (f .width .0)),
-        le-ltb 1024 W (f .width .1),
-        ne-eqb H 0 (some (f .height .0)),
-        le-ltb 1024 H (f .height .1),
-        le-ltb (length picture) (W * H) (f .picture-places),
-        le-ltb result (W * H) (f .result-places),
-        le-ltb work (4 * max W H) (f .work-places),
-        lt-leb W (s .cx) (f .centre .0),
-        lt-leb H (s .cy) (f .centre .1),
-        good-beyond (s .a) (f .shears .0),
-        good-beyond (s .b) (f .shears .1),
-        le-ltb 2 (s .kernel) (f .kernel),
-        nothing-bad range W H picture .1 (λ i l. f .samples i (omega (arith, mul-comm W H))),
-      )
-      refl
-    where
-      some : {n : ℕ} → 1 ≤ n → n ≡ 0 → ⊥
-      some h e = omega arith
-
   -- number 6 names the first sample beyond the range, in row order, of a call that passes the tests before it
   pub refused-sample : (y x : ℕ) → judged W H s picture result work ≡ Refused 6 y x → BadAt range W H picture y x
   unfolding judged
@@ -107,3 +132,10 @@ module _ (W H : ℕ) (s : Setting) (picture : List ℤ) (result work : ℕ) wher
           let p : row ≡ y = cc in
           let q : column ≡ x = cc in
           cc
+
+  -- and no other number names a place
+  pub refused-zero : ZeroButSix (judged W H s picture result work)
+  unfolding judged
+  refused-zero =
+      zero-if (badSize W H) 1 _ (zero-if (tooShort W H (length picture) result work) 2 _ (zero-if (badCentre W H s) 3 _ (zero-if (badShears s) 4 _
+      (zero-if (badKernel (s .kernel)) 5 _ (zero-found (firstBad range W H picture))))))

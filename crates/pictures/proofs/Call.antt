@@ -3,23 +3,30 @@ use Prim.Native.Nat.{ℕ, _+_, _*_, _≤_, _<_, max}
 use mathlib.Core.Path.{_≡_, refl, sym, ap, _∙_, subst}
 use mathlib.Core.List.{List, _++_}
 use native.Mathlib.Omega.{arith}
-use lib.IntN.{ℤ, pos}
+use lib.IntN.{ℤ, pos, natAbs}
 use lib.ListN.{length, take, drop, replicate}
 use lib.Seq.{getD-take, length-take-le, take-at}
+use Rattle.lists.specs.Line.{line}
+use Rattle.refusals.specs.declared.Verdict.{Verdict}
 use Rattle.refusals.specs.declared.Verdict.the-variants.{Accepted, Refused}
+use Rattle.refusals.specs.Judging as verdict
+use Rattle.refusals.proofs.First.{BadAt}
 use Rattle.settings.specs.declared.Setting.{Setting}
 use Rattle.kernels.specs.Kernel.{Kernel}
 use Rattle.passes.specs.Picture.{picture, straighten, Places, rows-moved}
 use Rattle.passes.specs.Count.{count}
 use Rattle.passes.proofs.Places.{inside, pictured-same}
 use Rattle.passes.proofs.Rows.{moved-row-alone}
+use Rattle.passes.proofs.Count.{count-bound}
 use Rattle.passes.proofs.Stages.{rows-pass, columns-pass, rows-pass-length, straighten-stages}
 use Rattle.exact.specs.Limits.{Demand3}
+use Rattle.exact.proofs.Straighten.{straighten-size}
 use Rattle.exact.proofs.Demand.{straighten-demand3}
-use Rattle.pictures.specs.Judge.{Fit}
-use Rattle.pictures.specs.Answer.{kernelIn, rowMoves, columnMoves, verdictOf, Answer}
+use Rattle.pictures.specs.declared.Outcome.{Outcome}
+use Rattle.pictures.specs.Judge.{range, Fit}
+use Rattle.pictures.specs.Answer.{numberOf, rowOf, columnOf, kernelIn, rowMoves, columnMoves, verdictOf, Answer}
 use Rattle.pictures.specs.declared.Outcome.the-variants as variants
-use Rattle.pictures.proofs.Accepted.{accepted-fit}
+use Rattle.pictures.proofs.Accepted.{accepted-fit, fit-range, refused-sample, refused-zero}
 
 -- ---- the places of the picture after its first W·H are not read
 module _ (κ : Kernel) (W H : ℕ) (rows columns : ℕ → ℤ) (s : List ℤ) (hW : 0 < W) (hH : 0 < H) where
@@ -68,7 +75,13 @@ module _ (W H : ℕ) (s : Setting) (picture result work : List ℤ) where
   refused-answer number row column e =
       record {
         outcome = rw e refl;
+        number = rw e refl;
+        row = rw e refl;
+        column = rw e refl;
+        count = rw e refl;
+        few = omega arith;
         written = rw e refl;
+        readable = λ a. let z : _≡_ {A = ℕ} 0 1 = cc in absurd (omega arith);
         cleared = rw e refl;
         demand3 = λ a. let z : _≡_ {A = ℕ} 0 1 = cc in absurd (omega arith);
       }
@@ -81,9 +94,15 @@ module _ (W H : ℕ) (s : Setting) (picture result work : List ℤ) where
   accepted-answer lines result′ work′ e counted done zero =
       record {
         outcome = rw (e, counted) refl;
+        number = rw e refl;
+        row = rw e refl;
+        column = rw e refl;
+        count = rw e counted;
+        few = omega (arith, counted, count-bound W H (s .cx) (s .cy) (s .a) (s .b) (f .centre .0) (f .centre .1));
         written = rw e done;
+        readable = λ a i l. rw (sym (getD-take (W * H) result′ i (pos 0) l), first) (straighten-size κ rows columns picture (f .width .0) (f .height .0) in-range i l);
         cleared = rw e zero;
-        demand3 = λ a. subst (Demand3 κ W H rows columns picture) (sym first) (straighten-demand3 κ W H rows columns picture (f .width .0) (f .height .0) (f .samples));
+        demand3 = λ a. subst (Demand3 κ W H rows columns picture) (sym first) (straighten-demand3 κ W H rows columns picture (f .width .0) (f .height .0) in-range);
       }
     where
       f : Fit W H s picture (length result) (length work)
@@ -98,8 +117,27 @@ module _ (W H : ℕ) (s : Setting) (picture result work : List ℤ) where
       columns : ℕ → ℤ
       columns = columnMoves s
 
+      in-range : (i : ℕ) → i < W * H → natAbs (line picture i) ≤ 32767
+      in-range = fit-range f
+
       first : take (W * H) result′ ≡ straighten κ W H rows columns picture
       first =
           ap (take (W * H)) done
           ∙ take-at (straighten κ W H rows columns (take (W * H) picture)) (drop (W * H) result) (W * H) (straighten-length κ W H rows columns (take (W * H) picture) (f .width .0) (f .height .0))
           ∙ straighten-takes κ W H rows columns picture (f .width .0) (f .height .0)
+
+-- ---- the row and the column of an answer: those of the first sample beyond the range, in row order, under 6, and 0 otherwise
+six : (v : Verdict) → verdict.numberOf v ≡ 6 → v ≡ Refused 6 (verdict.rowOf v) (verdict.columnOf v)
+six Accepted e = absurd (omega arith)
+six (Refused number row column) e = ap (λ n. Refused n row column) e
+
+module _ {W H : ℕ} {s : Setting} {picture result work : List ℤ} {r : Outcome} {result′ work′ : List ℤ} (a : Answer W H s picture result work r result′ work′) where
+  pub sample-named : numberOf r ≡ 6 → BadAt range W H picture (rowOf r) (columnOf r)
+  sample-named e =
+      let v = verdictOf W H s picture result work in
+      rw (a .row, a .column) (refused-sample W H s picture (length result) (length work) (verdict.rowOf v) (verdict.columnOf v) (six v (sym (a .number) ∙ e)))
+
+  pub elsewhere-zero : (numberOf r ≡ 6 → ⊥) → (rowOf r ≡ 0) × (columnOf r ≡ 0)
+  elsewhere-zero other =
+      let z = refused-zero W H s picture (length result) (length work) (λ e. other (a .number ∙ e)) in
+      (a .row ∙ z .0, a .column ∙ z .1)

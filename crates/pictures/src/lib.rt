@@ -1,7 +1,7 @@
 // The three-pass call: a grey picture straightened by three shears, of its rows, its columns and its rows again. Samples are in 128ths of
 // a grey, stored row by row, and shears in 4,096ths.
 // The tests read the picture once. An accepted picture is copied into the result and straightened there, four lines at a time by way of
-// `work`; on one core a picture of 1,024 by 1,024 takes some 8, 13 or 20 ms with kernel 0, 1 or 2.
+// `work`; docs/PERFORMANCE.md says what that costs.
 ghost use mathlib.Core.Path.{_≡_};
 ghost use mathlib.Core.List.{_++_};
 ghost use Prim.Native.Nat.{_*_, max};

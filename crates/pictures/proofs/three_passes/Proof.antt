@@ -1,5 +1,5 @@
 -- `three_passes` runs the pass with the strides of rows, of columns and of rows, each on what the one before it left. Assumes nothing.
-use Prim.Native.Nat.{ℕ, _+_, _*_, _<_}
+use Prim.Native.Nat.{ℕ, _+_, _*_, _≤_, _<_}
 use mathlib.Core.Path.{_≡_, refl, sym, ap₂, _∙_}
 use mathlib.Core.List.{List}
 use native.Mathlib.Nat.{mul-comm}
@@ -19,6 +19,7 @@ use Rattle.passes.specs.Count.{count}
 use Rattle.passes.proofs.Stages.{rows-pass, columns-pass, rows-pass-length, columns-pass-length, straighten-stages}
 use Rattle.pictures.specs.Pass.{Movable}
 use Rattle.pictures.specs.Answer.{kernelIn, rowMoves, columnMoves}
+use Rattle.pictures.proofs.Accepted.{fit-range}
 use Rattle.pictures.proofs.Three.{rows-strided, columns-strided, first-range, second-range, third-range}
 use Rattle.pictures.proofs.three_passes.Statement.{statement}
 use Rattle.pictures.proofs.three_passes.Tie as tie
@@ -64,29 +65,29 @@ module _ (s : tie.Start) where
   b-is : toZ w32 (ofZ w32 (s .args .setting .b)) ≡ s .args .setting .b
   b-is = toZ-ofZ (sfits-natAbs (s .args .setting .b) (s .pre .0 .shears .1) (lit< tt))
 
-  rows-movable : (room : ℕ) → room ≡ length (s .args .work .now)
-      → Movable W H (s .args .setting .kernel) (s .args .setting .a) (s .args .setting .cy) room
-  rows-movable room e =
+  rows-movable : (kernel room : ℕ) → kernel ≤ 2 → room ≡ length (s .args .work .now)
+      → Movable W H kernel (s .args .setting .a) (s .args .setting .cy) room
+  rows-movable kernel room known e =
       let f = s .pre .0 in
       record {
         some = f .width .0;
         short = omega (arith, f .width .1);
         few = f .height .1;
-        known = f .kernel;
+        known = known;
         slight = f .shears .0;
         central = omega (arith, f .centre .1, f .height .1);
         roomy = omega (arith, f .work-places);
       }
 
-  columns-movable : (room : ℕ) → room ≡ length (s .args .work .now)
-      → Movable H W (s .args .setting .kernel) (s .args .setting .b) (s .args .setting .cx) room
-  columns-movable room e =
+  columns-movable : (kernel room : ℕ) → kernel ≤ 2 → room ≡ length (s .args .work .now)
+      → Movable H W kernel (s .args .setting .b) (s .args .setting .cx) room
+  columns-movable kernel room known e =
       let f = s .pre .0 in
       record {
         some = f .height .0;
         short = omega (arith, f .height .1);
         few = f .width .1;
-        known = f .kernel;
+        known = known;
         slight = f .shears .1;
         central = omega (arith, f .centre .0, f .width .1);
         roomy = omega (arith, f .work-places);
@@ -115,14 +116,14 @@ pass-requires : tie.Need-pass-requires
 pass-requires c κs =
     let s = c .before .before .before .before in
     rw (a-is s)
-    (rows-movable s _ refl, (as-rows s (s .args .picture .now) (s .pre .1), first-range (κ s) (rows s) (columns s) (s .args .picture .now) (wide s) (high s) (s .pre .0 .samples)))
+    (rows-movable s _ _ (omega (arith, s .pre .0 .kernel)) refl, (as-rows s (s .args .picture .now) (s .pre .1), first-range (κ s) (rows s) (columns s) (s .args .picture .now) (wide s) (high s) (fit-range (s .pre .0))))
 
 pass-requires-2 : tie.Need-pass-requires-2
 pass-requires-2 c κs =
     let p = c .before .before .before .before in
     let s = p .before .before .before .before .before in
     rw (b-is s, first-is p)
-    (columns-movable s _ (p .pass .kept .1 .0), (as-columns s (once s) (once-long s), second-range (κ s) (rows s) (columns s) (s .args .picture .now) (wide s) (high s) (s .pre .0 .samples)))
+    (columns-movable s _ _ (omega (arith, s .pre .0 .kernel)) (p .pass .kept .1 .0), (as-columns s (once s) (once-long s), second-range (κ s) (rows s) (columns s) (s .args .picture .now) (wide s) (high s) (fit-range (s .pre .0))))
 
 pass-requires-3 : tie.Need-pass-requires-3
 pass-requires-3 c κs =
@@ -130,7 +131,7 @@ pass-requires-3 c κs =
     let o = p .before .before .before .before .before in
     let s = o .before .before .before .before .before in
     rw (a-is s, second-is p)
-    (rows-movable s _ (p .pass2 .kept .1 .0 ∙ o .pass .kept .1 .0), (as-rows s (twice s) (twice-long s), third-range (κ s) (rows s) (columns s) (s .args .picture .now) (wide s) (high s) (s .pre .0 .samples)))
+    (rows-movable s _ _ (omega (arith, s .pre .0 .kernel)) (p .pass2 .kept .1 .0 ∙ o .pass .kept .1 .0), (as-rows s (twice s) (twice-long s), third-range (κ s) (rows s) (columns s) (s .args .picture .now) (wide s) (high s) (fit-range (s .pre .0))))
 
 add-result : tie.Need-add-result
 add-result c = search needs

@@ -1,0 +1,116 @@
+-- Verdicts at both ends of every range and one past each, in the order of the numbers, and the figures of an outcome, worked out by the
+-- checker. Assumes nothing.
+use Prim.Native.Nat.{ℕ, _*_, max}
+use mathlib.Core.Path.{_≡_, refl}
+use mathlib.Core.List.{List, [], _∷_, map}
+use lib.IntN.{ℤ, pos, negsuc}
+use lib.ListN.{replicate}
+use Rattle.arith.specs.Whole.{floor, remainder}
+use Rattle.arith.specs.Move.{fraction}
+use Rattle.refusals.specs.declared.Verdict.{Verdict}
+use Rattle.refusals.specs.declared.Verdict.the-variants.{Accepted, Refused}
+use Rattle.refusals.specs.Tests.{badSide, badSize, short, badKernel, beyondOf, firstFrom, firstBad}
+use Rattle.settings.specs.declared.Setting.{Setting}
+use Rattle.passes.specs.Count.{interpolated, count}
+use Rattle.pictures.specs.declared.Outcome.{Outcome}
+use Rattle.pictures.specs.Judge.{tooShort, badCentre, badShears, judged}
+use Rattle.pictures.specs.Answer.{numberOf, rowOf, columnOf, countOf, outcomeOf, rowMoves, columnMoves}
+
+-- a setting: kernel, centre and shears
+abbrev set : ℕ → ℕ → ℕ → ℤ → ℤ → Setting
+set kernel cx cy A B = record { kernel = kernel; cx = cx; cy = cy; a = A; b = B }
+
+abbrev still : Setting
+still = set 0 0 0 (pos 0) (pos 0)
+
+-- a picture of W·H zeros, with a result and work of just the places that they need
+abbrev sized : ℕ → ℕ → Verdict
+sized W H = judged W H still (replicate (W * H) (pos 0)) (W * H) (4 * max W H)
+
+-- a picture of 3 by 2 zeros: with buffers of so many places, and with a setting
+abbrev lent : ℕ → ℕ → ℕ → Verdict
+lent picture result work = judged 3 2 still (replicate picture (pos 0)) result work
+
+abbrev turned : Setting → Verdict
+turned s = judged 3 2 s (replicate 6 (pos 0)) 6 12
+
+-- a picture of 3 by 2 samples
+abbrev held : List ℤ → Verdict
+held picture = judged 3 2 still picture 6 12
+
+sides :
+    sized 1 1 ∷ sized 1024 1 ∷ sized 1 1024 ∷ sized 0 1 ∷ sized 1 0 ∷ sized 1025 1 ∷ sized 1 1025 ∷ []
+    ≡ Accepted ∷ Accepted ∷ Accepted ∷ Refused 1 0 0 ∷ Refused 1 0 0 ∷ Refused 1 0 0 ∷ Refused 1 0 0 ∷ []
+unfolding judged badSize badSide tooShort short badCentre badShears badKernel firstBad firstFrom beyondOf
+sides = refl
+
+buffers :
+    lent 6 6 12 ∷ lent 5 6 12 ∷ lent 6 5 12 ∷ lent 6 6 11 ∷ []
+    ≡ Accepted ∷ Refused 2 0 0 ∷ Refused 2 0 0 ∷ Refused 2 0 0 ∷ []
+unfolding judged badSize badSide tooShort short badCentre badShears badKernel firstBad firstFrom beyondOf
+buffers = refl
+
+centres :
+    turned (set 0 2 1 (pos 0) (pos 0)) ∷ turned (set 0 3 1 (pos 0) (pos 0)) ∷ turned (set 0 2 2 (pos 0) (pos 0)) ∷ []
+    ≡ Accepted ∷ Refused 3 0 0 ∷ Refused 3 0 0 ∷ []
+unfolding judged badSize badSide tooShort short badCentre badShears badKernel firstBad firstFrom beyondOf
+centres = refl
+
+shears :
+    turned (set 0 0 0 (pos 4096) (negsuc 4095))
+    ∷ turned (set 0 0 0 (negsuc 4095) (pos 4096))
+    ∷ turned (set 0 0 0 (pos 4097) (pos 0))
+    ∷ turned (set 0 0 0 (negsuc 4096) (pos 0))
+    ∷ turned (set 0 0 0 (pos 0) (pos 4097))
+    ∷ turned (set 0 0 0 (pos 0) (negsuc 4096))
+    ∷ []
+    ≡ Accepted ∷ Accepted ∷ Refused 4 0 0 ∷ Refused 4 0 0 ∷ Refused 4 0 0 ∷ Refused 4 0 0 ∷ []
+unfolding judged badSize badSide tooShort short badCentre badShears badKernel firstBad firstFrom beyondOf
+shears = refl
+
+kernels :
+    map (λ k. turned (set k 0 0 (pos 0) (pos 0))) (0 ∷ 1 ∷ 2 ∷ 3 ∷ []) ≡ Accepted ∷ Accepted ∷ Accepted ∷ Refused 5 0 0 ∷ []
+unfolding judged badSize badSide tooShort short badCentre badShears badKernel firstBad firstFrom beyondOf
+kernels = refl
+
+-- the first sample beyond the range is named, by its row and its column; samples past the W·H places are not read
+samples :
+    held (pos 32767 ∷ pos 0 ∷ negsuc 32766 ∷ pos 0 ∷ pos 0 ∷ pos 32767 ∷ pos 32768 ∷ [])
+    ∷ held (pos 32767 ∷ pos 0 ∷ pos 0 ∷ pos 0 ∷ pos 0 ∷ pos 32768 ∷ negsuc 32767 ∷ [])
+    ∷ held (pos 0 ∷ negsuc 32767 ∷ pos 0 ∷ pos 32768 ∷ pos 0 ∷ pos 0 ∷ [])
+    ∷ []
+    ≡ Accepted ∷ Refused 6 1 2 ∷ Refused 6 0 1 ∷ []
+unfolding judged badSize badSide tooShort short badCentre badShears badKernel firstBad firstFrom beyondOf
+samples = refl
+
+-- two neighbouring numbers apply, and the lower is told
+lowest :
+    judged 1025 1 still [] 0 0
+    ∷ judged 3 2 (set 0 3 0 (pos 0) (pos 0)) [] 6 12
+    ∷ turned (set 0 3 0 (pos 4097) (pos 0))
+    ∷ turned (set 3 0 0 (pos 4097) (pos 0))
+    ∷ judged 1 1 (set 3 0 0 (pos 0) (pos 0)) (pos 32768 ∷ []) 1 4
+    ∷ []
+    ≡ Refused 1 0 0 ∷ Refused 2 0 0 ∷ Refused 3 0 0 ∷ Refused 4 0 0 ∷ Refused 5 0 0 ∷ []
+unfolding judged badSize badSide tooShort short badCentre badShears badKernel firstBad firstFrom beyondOf
+lowest = refl
+
+-- a picture of 3 by 2 with centre (2,1), A = 1,000 and B = -2,048
+abbrev asked : Setting
+asked = set 1 2 1 (pos 1000) (negsuc 2047)
+
+-- row 0 moves by 1,000·(0 - 1), columns 0 and 1 by -2,048·(0 - 2) and -2,048·(1 - 2)
+moves : rowMoves asked 0 ∷ columnMoves asked 0 ∷ columnMoves asked 1 ∷ [] ≡ negsuc 999 ∷ pos 4096 ∷ pos 2048 ∷ []
+moves = refl
+
+-- number, row, column and count of its outcome: refused for the sample in row 1 and column 2, and accepted, where row 0 is interpolated
+-- twice and column 1 once
+abbrev figures : Outcome → List ℕ
+figures o = numberOf o ∷ rowOf o ∷ columnOf o ∷ countOf o ∷ []
+
+abbrev answered : ℕ → Outcome
+answered v = outcomeOf (judged 3 2 asked (pos 0 ∷ pos 0 ∷ pos 0 ∷ pos 0 ∷ pos 0 ∷ pos v ∷ []) 6 12) (count 3 2 (rowMoves asked) (columnMoves asked))
+
+outcomes : figures (answered 32768) ∷ figures (answered 32767) ∷ [] ≡ (6 ∷ 1 ∷ 2 ∷ 0 ∷ []) ∷ (0 ∷ 0 ∷ 0 ∷ 3 ∷ []) ∷ []
+unfolding judged badSize badSide tooShort short badCentre badShears badKernel firstBad firstFrom beyondOf floor remainder fraction interpolated count
+outcomes = refl
