@@ -126,6 +126,12 @@ typedef struct {
     float greys;
 } straightener_reading_answer;
 
+/* The bytes written of an answer to a line under number 0, or 0 under number 2. */
+typedef struct {
+    uint32_t number;
+    size_t written;
+} straightener_line_answer;
+
 /*
  * The darkest and the lightest sample of a picture, in greys, exact and held to no range;
  * number, row and column as in straightener_answer.
@@ -253,11 +259,12 @@ straightener_summary_answer straightener_summary(size_t width, size_t height,
  *           greys, at most 4,096
  *   answer  receives the answer with its line feed: 00, count 4 digits, width 4, height 4 and 8 digits
  *           a sample (two's complement), or the refusal number 2, row 4 and column 4 digits
- * Returns the number of bytes written, or 0, with nothing written, if the answer is longer than
- * answer_len; STRAIGHTENER_LONGEST_ANSWER places always suffice.
- * The numbers that a line can be refused under are 1, 3, 4, 5 and 9.
+ * Refuses under 2 where the answer is longer than answer_len; STRAIGHTENER_LONGEST_ANSWER places always
+ * suffice. A line that is refused is answered all the same, under number 0: its own number, one of 1, 3,
+ * 4, 5 and 9, stands in the answer's text.
  */
-size_t straightener_answer_line(const uint8_t *line, size_t line_len, uint8_t *answer, size_t answer_len);
+straightener_line_answer straightener_answer_line(const uint8_t *line, size_t line_len,
+                                                  uint8_t *answer, size_t answer_len);
 
 #ifdef __cplusplus
 }

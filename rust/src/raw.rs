@@ -70,6 +70,16 @@ pub struct ReadingAnswer {
     pub greys: f32,
 }
 
+/// The bytes written of an answer to a line of the line format.
+#[repr(C)]
+#[derive(Clone, Copy, Debug, PartialEq, Eq)]
+pub struct LineAnswer {
+    /// 0, or 2 where the answer does not fit.
+    pub number: u32,
+    /// How many bytes were written, 0 where refused.
+    pub written: usize,
+}
+
 /// The darkest and the lightest grey of a picture.
 #[repr(C)]
 #[derive(Clone, Copy, Debug, PartialEq)]
@@ -130,7 +140,7 @@ mod linked {
         pub fn straightener_answer_line(
             line: *const u8, line_len: usize,
             answer: *mut u8, answer_len: usize,
-        ) -> usize;
+        ) -> LineAnswer;
     }
 }
 
@@ -256,9 +266,9 @@ pub fn summary(width: usize, height: usize, picture: &[i32]) -> SummaryAnswer {
     unsafe { linked::straightener_summary(width, height, picture.as_ptr(), picture.len()) }
 }
 
-/// The answer to one line of the line format, given without its line feed: the number of bytes
-/// written, or 0 if `answer` is too short.
-pub fn answer_line(line: &[u8], answer: &mut [u8]) -> usize {
+/// The answer to one line of the line format, given without its line feed. Refuses under 2 if `answer`
+/// is too short; 32,783 places always suffice.
+pub fn answer_line(line: &[u8], answer: &mut [u8]) -> LineAnswer {
     // SAFETY: borrowed slices, see above.
     unsafe { linked::straightener_answer_line(line.as_ptr(), line.len(), answer.as_mut_ptr(), answer.len()) }
 }

@@ -348,7 +348,8 @@ pub fn summary(width: usize, height: usize, picture: &[i32]) -> Result<Summary, 
 /// ```
 pub fn answer_line(line: &[u8]) -> Vec<u8> {
     let mut answer = vec![0; LONGEST_ANSWER];
-    let written = raw::answer_line(line, &mut answer);
-    answer.truncate(written);
+    let answered = raw::answer_line(line, &mut answer);
+    assert_eq!(answered.number, 0, "the longest answer has room");
+    answer.truncate(answered.written);
     answer
 }

@@ -289,12 +289,13 @@ fn an_answer_that_does_not_fit_is_not_written() {
     let answer = Second.answer_line(line);
     for length in 0..40 {
         let mut lent = vec![7; length];
-        let written = straightener::raw::answer_line(line, &mut lent);
+        let answered = straightener::raw::answer_line(line, &mut lent);
         if length < answer.len() {
-            assert_eq!((written, lent), (0, vec![7; length]));
+            assert_eq!((answered.number, answered.written, lent), (2, 0, vec![7; length]));
         } else {
-            assert_eq!((written, &lent[..written]), (answer.len(), &answer[..]));
-            assert!(lent[written..].iter().all(|&byte| byte == 7));
+            assert_eq!((answered.number, answered.written), (0, answer.len()));
+            assert_eq!(&lent[..answer.len()], &answer[..]);
+            assert!(lent[answer.len()..].iter().all(|&byte| byte == 7));
         }
     }
 }

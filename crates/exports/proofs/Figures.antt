@@ -10,9 +10,10 @@ use Rattle.pictures.specs.declared.Outcome.the-variants as picture
 use Rattle.lines.specs.declared.LineOutcome.the-variants as line
 use Rattle.steps.specs.declared.StepSine.the-variants as sine
 use Rattle.steps.specs.declared.Levelled.the-variants as level
+use Rattle.hexlines.specs.declared.Written.the-variants as written
 use Rattle.readings.specs.declared.Reading.{Reading}
 use Rattle.readings.specs.declared.Reading.the-variants.{Level, Under, Over}
-use Rattle.exports.specs.Exported.{ofVerdict, ofOutcome, ofLine, ofSine, ofLevelled, kindOf, greysOf, ofReading, ofSummary}
+use Rattle.exports.specs.Exported.{ofVerdict, ofOutcome, ofLine, ofSine, ofLevelled, kindOf, greysOf, ofReading, ofSummary, ofWritten}
 
 -- ---- refused under a number, with a row and a column: these three, and every other figure 0
 module _ (n y x : ℕ) where
@@ -41,6 +42,9 @@ refused-sine n = refl
 pub refused-level : (n : ℕ) → ofLevelled (level.Refused n) ≡ record { number = n; value = pos 0 }
 refused-level n = refl
 
+pub refused-answer : (n : ℕ) → ofWritten (written.Refused n) ≡ record { number = n; written = 0 }
+refused-answer n = refl
+
 -- ---- accepted: number, row and column 0
 pub accepted-verdict : ofVerdict verdict.Accepted ≡ record { number = 0; row = 0; column = 0; count = 0 }
 accepted-verdict = refl
@@ -56,6 +60,9 @@ accepted-line = refl
 
 pub accepted-sine : (s : ℤ) → ofSine (sine.Value s) ≡ record { number = 0; value = s }
 accepted-sine s = refl
+
+pub accepted-answer : (bytes : ℕ) → ofWritten (written.Bytes bytes) ≡ record { number = 0; written = bytes }
+accepted-answer bytes = refl
 
 pub accepted-level : (t : ℤ) → ofLevelled (level.Step t) ≡ record { number = 0; value = t }
 accepted-level t = refl

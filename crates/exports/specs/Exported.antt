@@ -19,10 +19,13 @@ use Rattle.readings.specs.declared.Reading.{Reading}
 use Rattle.readings.specs.declared.Reading.the-variants.{Level, Under, Over}
 use Rattle.readings.specs.declared.ReadingAnswer as reading
 use Rattle.readings.specs.declared.SummaryAnswer as summary
+use Rattle.hexlines.specs.declared.Written.{Written}
+use Rattle.hexlines.specs.Answered.{writtenNumber, writtenBytes}
 use Rattle.exports.specs.declared.Answer.{Answer}
 use Rattle.exports.specs.declared.Step.{Step}
 use Rattle.exports.specs.declared.ReadingAnswer.{ReadingAnswer}
 use Rattle.exports.specs.declared.SummaryAnswer.{SummaryAnswer}
+use Rattle.exports.specs.declared.LineAnswer.{LineAnswer}
 
 -- a verdict alone interpolates no line
 abbrev pub ofVerdict : Verdict → Answer
@@ -77,6 +80,9 @@ ofSummary a =
       darkest = a .summary .darkest;
       lightest = a .summary .lightest;
     }
+
+abbrev pub ofWritten : Written → LineAnswer
+ofWritten w = record { number = writtenNumber w; written = writtenBytes w }
 
 -- r is laid out from an outcome of which the call beneath says all that it promises
 pub record Exported {O R : Type 0} (flattened : O → R) (Promised : O → Type 0) (r : R) : Type 0 where

@@ -8,9 +8,9 @@ ghost use Rattle.steps.specs.Step.{SineAnswer, changeOf};
 ghost use Rattle.steps.specs.Level.{LevelAnswer};
 ghost use Rattle.readings.specs.Sample.{greyOf};
 ghost use Rattle.readings.specs.Answers.{Out, FloatsOut, ReadingAt, SummaryOf};
-ghost use Rattle.hexlines.specs.Answer.{answerOf};
-ghost use Rattle.hexlines.specs.Room.{Fitted};
-ghost use Rattle.exports.specs.Exported.{Exported, ofVerdict, ofOutcome, ofLine, ofSine, ofLevelled, kindOf, greysOf, ofReading, ofSummary};
+ghost use Rattle.hexlines.specs.Answered.{LineAnswered};
+ghost use Rattle.exports.specs.Exported.{Exported, ofVerdict, ofOutcome, ofLine, ofSine, ofLevelled, kindOf, greysOf, ofReading, ofSummary, ofWritten};
+use hexlines::Written;
 use lines::LineOutcome;
 use pictures::Outcome;
 use readings::Reading;
@@ -54,6 +54,13 @@ pub struct SummaryAnswer {
     pub column: usize,
     pub darkest: f32,
     pub lightest: f32,
+}
+
+// 0 and the bytes written of an answer to a line, or 2 and none.
+#[repr(C)]
+pub struct LineAnswer {
+    pub number: u32,
+    pub written: usize,
 }
 
 // ---- answers laid out flat
@@ -172,6 +179,18 @@ fn of_summary(answer: readings::SummaryAnswer) -> SummaryAnswer
         column: judged.column,
         darkest: summary.darkest,
         lightest: summary.lightest,
+    }
+}
+
+fn of_written(written: Written) -> LineAnswer
+    ensures { λ r. ⌜ r ≡ ofWritten written ⌝ }
+{
+    match written {
+        Written::Bytes(n) => LineAnswer {
+            number: 0,
+            written: n,
+        },
+        Written::Refused(number) => LineAnswer { number, written: 0 },
     }
 }
 
@@ -307,18 +326,10 @@ pub extern "C" fn straightener_summary(
     of_summary(readings::summary_of(width, height, picture))
 }
 
-// Room for the samples of one line.
-fn places() -> [i32; 4096] {
-    [0; 4096]
-}
-
 // The answer to one line of the line program, which comes without its line feed.
 #[no_mangle]
-pub extern "C" fn straightener_answer_line(line: &[u8], answer: &mut [u8]) -> usize
-    ensures { λ r. ⌜ Fitted (answerOf (now (line .entry))) (now (answer .entry)) (now (answer .exit)) r ⌝ }
+pub extern "C" fn straightener_answer_line(line: &[u8], answer: &mut [u8]) -> LineAnswer
+    ensures { λ r. ⌜ Exported ofWritten (LineAnswered (now (line .entry)) (now (answer .entry)) (now (answer .exit))) r ⌝ }
 {
-    let mut picture = places();
-    let mut result = places();
-    let mut work = places();
-    hexlines::answer(line, answer, &mut picture, &mut result, &mut work)
+    of_written(hexlines::answer(line, answer))
 }

@@ -123,7 +123,7 @@ static void refusals(void)
     n[1] = straightener_straighten(1025, 2, setting, NULL, 0, NULL, 0, NULL, 0).number;
     n[7] = straightener_level(0, 0, 1024, 0).number;
     n[8] = straightener_level(10, 0, 10, 0).number;
-    expect(straightener_answer_line((const uint8_t *)"junk", 4, answer, 11) == 11);
+    expect(straightener_answer_line((const uint8_t *)"junk", 4, answer, 11).written == 11);
     n[9] = (unsigned)(answer[1] - '0');
     expect(all(r, 0, 6, UNTOUCHED) && all(work, 0, 12, UNTOUCHED));
     printf("refusals: %u %u %u %u %u %u %u %u %u\n", n[1], n[2], n[3], n[4], n[5], n[6], n[7], n[8], n[9]);
@@ -190,10 +190,11 @@ static void line_format(void)
 {
     const char *line = "000000000100010000000080";
     static uint8_t answer[STRAIGHTENER_LONGEST_ANSWER];
-    size_t written = straightener_answer_line((const uint8_t *)line, strlen(line), answer, sizeof answer);
-    expect(written == 23 && answer[22] == '\n');
-    expect(straightener_answer_line((const uint8_t *)line, strlen(line), answer, 22) == 0);
-    printf("line format: %.*s", (int)written, (const char *)answer);
+    straightener_line_answer fits = straightener_answer_line((const uint8_t *)line, strlen(line), answer, sizeof answer);
+    expect(fits.number == STRAIGHTENER_ACCEPTED && fits.written == 23 && answer[22] == '\n');
+    straightener_line_answer cut = straightener_answer_line((const uint8_t *)line, strlen(line), answer, 22);
+    expect(cut.number == STRAIGHTENER_BUFFER && cut.written == 0);
+    printf("line format: %.*s", (int)fits.written, (const char *)answer);
 }
 
 int main(void)
