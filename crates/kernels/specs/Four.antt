@@ -1,5 +1,5 @@
 -- A line's four weights as the code keeps them, and the sum that they weigh. Assumes nothing.
-use Prim.Native.Nat.{_+_, _≤_}
+use Prim.Native.Nat.{ℕ, _+_, _≤_}
 use lib.IntN.{ℤ, natAbs, _+ℤ_, _*ℤ_}
 use Rattle.kernels.specs.declared.FourWeights.{FourWeights}
 use Rattle.kernels.specs.Kernel.{Kernel, weight}
@@ -14,9 +14,12 @@ weightedSum w a b c e = w .w0 *ℤ a +ℤ w .w1 *ℤ b +ℤ w .w2 *ℤ c +ℤ w 
 abbrev pub Modest : FourWeights → Type 0
 Modest w = natAbs (w .w0) + natAbs (w .w1) + natAbs (w .w2) + natAbs (w .w3) ≤ 412316860416
 
--- what four such weights may weigh: coefficients of samples within ±294,912, or the samples
+-- what four such weights may weigh: the coefficients of samples within ±294,912 are this large, and the samples smaller
+abbrev pub largest : ℕ
+largest = 14155779
+
 pub record Weighable (a b c e : ℤ) : Type 0 where
-  pub first : natAbs a ≤ 14155779
-  pub second : natAbs b ≤ 14155779
-  pub third : natAbs c ≤ 14155779
-  pub fourth : natAbs e ≤ 14155779
+  pub first : natAbs a ≤ largest
+  pub second : natAbs b ≤ largest
+  pub third : natAbs c ≤ largest
+  pub fourth : natAbs e ≤ largest

@@ -1,10 +1,10 @@
 // The kernels' weights. A kernel is 0 linear, 1 Keys or 2 cubic spline; f is the fraction of a sample, in parts of D = 4,096; a kernel's
 // four weights sum to 1, 2 or 6 times D³.
 ghost use mathlib.Core.Path.{_≡_};
-ghost use Prim.Native.Nat.{ℕ, _≤_, _<_};
+ghost use Prim.Native.Nat.{ℕ, _≤_};
 ghost use lib.ListN.{getD};
 ghost use lib.IntN.{pos, natAbs};
-ghost use Rattle.kernels.specs.Kernel.{kernelOf, evaluate, weight};
+ghost use Rattle.kernels.specs.Kernel.{kernelOf, evaluate};
 ghost use Rattle.kernels.specs.Four.{fourWeights, weightedSum, Modest, Weighable};
 
 // For each kernel, for each of the four source places, the numbers a, b, c, e of its weight.
@@ -29,14 +29,6 @@ fn evaluated(row: [i64; 4], f: i64) -> i64
     ensures { λ r. ⌜ r ≡ evaluate row f ⌝ }
 {
     row[0] * 68719476736 + row[1] * f * 16777216 + row[2] * f * f * 4096 + row[3] * f * f * f
-}
-
-// The weight of source place k+q-1+place at f.
-pub fn weight(kernel: u32, place: usize, f: i64) -> i64
-    requires { ⌜ (kernel ≤ 2) × (place < 4) × (natAbs f ≤ 4096) ⌝ }
-    ensures { λ r. ⌜ r ≡ weight (kernelOf kernel) f place ⌝ }
-{
-    evaluated(ROWS[kernel as usize][place], f)
 }
 
 // A line's four weights at f. The table is named once, since each mention of it costs a copy.
