@@ -1,7 +1,7 @@
 -- The call that moves one line: what an accepted call has passed, what its buffers hold at each step, and the answer in either case.
 -- Assumes nothing.
 use mathlib.Core.Path.{_≡_, sym, ap, _∙_}
-use mathlib.Core.Bool.{Bool, _||_}
+use mathlib.Core.Bool.{Bool, _||_, cond}
 use mathlib.Core.List.{List, _++_}
 use Prim.Native.Nat.{ℕ, _+_, _*_, _≤_}
 use native.Mathlib.Omega.{arith}
@@ -14,6 +14,7 @@ use Rattle.lists.proofs.Grid.{put-front}
 use Rattle.refusals.specs.declared.Verdict.the-variants as verdict
 use Rattle.refusals.specs.Tests.{badSide, short, badKernel, beyondOf, firstBad}
 use Rattle.refusals.specs.Judging.{whenAccepted}
+use Rattle.refusals.specs.Judging as judging
 use Rattle.refusals.proofs.Tests.{or-false, side-good, short-good, kernel-good, beyond-good}
 use Rattle.refusals.proofs.First.{nothing-bad}
 use Rattle.refusals.proofs.Judging.{refusedIf-accepted, ofFound-accepted}
@@ -55,6 +56,10 @@ module _ (n kernel : ℕ) (d : ℤ) (line result work : List ℤ) where
   line-refused number row column e =
       record {
         outcome = ap (λ v. outcomeBy v (isInterpolated d)) (sym e);
+        number = ap judging.numberOf (sym e);
+        row = ap judging.rowOf (sym e);
+        column = ap judging.columnOf (sym e);
+        count = ap (λ v. whenAccepted v (cond (isInterpolated d) 1 0) 0) (sym e);
         result = ap (λ v. whenAccepted v (move (kernelOf kernel) d (take n line) ++ drop n result) result) (sym e);
         work = ap (λ v. whenAccepted v (replicate (2 * n) (pos 0) ++ drop (2 * n) work) work) (sym e);
       }
@@ -67,6 +72,10 @@ module _ (n kernel : ℕ) (d : ℤ) (line result work : List ℤ) where
   line-moved result′ work′ interpolated e i r w =
       record {
         outcome = ap Moved i ∙ ap (λ v. outcomeBy v (isInterpolated d)) (sym e);
+        number = ap judging.numberOf (sym e);
+        row = ap judging.rowOf (sym e);
+        column = ap judging.columnOf (sym e);
+        count = ap (λ b. cond b 1 0) i ∙ ap (λ v. whenAccepted v (cond (isInterpolated d) 1 0) 0) (sym e);
         result = r ∙ ap (λ v. whenAccepted v (move (kernelOf kernel) d (take n line) ++ drop n result) result) (sym e);
         work = w ∙ ap (λ v. whenAccepted v (replicate (2 * n) (pos 0) ++ drop (2 * n) work) work) (sym e);
       }
