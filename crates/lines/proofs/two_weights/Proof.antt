@@ -68,12 +68,6 @@ wide-requires c κs = search needs
 four-weights-requires : tie.Need-four-weights-requires
 four-weights-requires c κs = let s = c .before in (lit≤ tt, rw (f-is c) (rest (s .args .f) (s .pre .0) (s .pre .1) .0))
 
-cast-t4 : tie.Need-cast-t4
-cast-t4 c = let p = c .before .before in need 0 (code (p .four-weights .result .w1)) (first-ranges p)
-
-cast-t6 : tie.Need-cast-t6
-cast-t6 c = let p = c .before .before .before .before in need 0 (code (p .four-weights .result .w2)) (second-ranges p)
-
 returns : tie.Need-returns
 returns c =
     let p = c .before .before .before .before in
@@ -87,4 +81,11 @@ returns c =
     )
 
 pub two-weights-spec : {M : Type 1} → statement M
-two-weights-spec = tie.close (tie.spec wide-requires four-weights-requires cast-t4 cast-t6 returns)
+two-weights-spec =
+    tie.close
+    (tie.spec
+    wide-requires
+    four-weights-requires
+    (λ c. let p = c .before .before in need 0 (code (p .four-weights .result .w1)) (first-ranges p))
+    (λ c. let p = c .before .before .before .before in need 0 (code (p .four-weights .result .w2)) (second-ranges p))
+    returns)
