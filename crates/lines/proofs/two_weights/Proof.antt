@@ -1,6 +1,6 @@
 -- `lines::two_weights` meets its contract: linear's two middle weights are D²·(4,096 - f) and D²·f. Assumes nothing.
 use mathlib.Core.Path.{_≡_, ap, _∙_}
-use Prim.Native.Nat.{ℕ, _≤_}
+use Prim.Native.Nat.{_≤_}
 use native.Mathlib.Omega.{arith}
 use borrow.Author.Needs.{needs}
 use lib.Dec.{lit≤}
@@ -15,7 +15,6 @@ use Rattle.arith.proofs.Ring.{ring, reify, vars1}
 use Rattle.arith.proofs.Machine.{read-back}
 use Rattle.arith.proofs.Compute.{Code, arg, cast, _>>ᵐ_, Ranges, need, value}
 use Rattle.kernels.specs.Kernel.{Linear, weight}
-use Rattle.kernels.specs.Four.{fourWeights}
 use Rattle.lines.proofs.two_weights.Statement.{statement}
 use Rattle.lines.proofs.two_weights.Tie as tie
 
