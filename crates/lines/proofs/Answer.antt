@@ -1,7 +1,7 @@
 -- The call that moves one line: what an accepted call has passed, what its buffers hold at each step, and the answer in either case.
 -- Assumes nothing.
 use mathlib.Core.Path.{_≡_, sym, ap, _∙_}
-use mathlib.Core.Bool.{Bool, _||_, cond}
+use mathlib.Core.Bool.{Bool, cond}
 use mathlib.Core.List.{List, _++_}
 use Prim.Native.Nat.{ℕ, _+_, _*_, _≤_}
 use native.Mathlib.Omega.{arith}
@@ -30,12 +30,12 @@ module _ (n kernel : ℕ) (d : ℤ) (line : List ℤ) (result work : ℕ) where
   unfolding judged tooShort
   accepted e =
       let one = refusedIf-accepted (badSide n) 1 _ e in
-      let two = refusedIf-accepted (short (length line) n || (short result n || short work (2 * n))) 2 _ (one .1) in
+      let two = refusedIf-accepted (tooShort n (length line) result work) 2 _ (one .1) in
       let four = refusedIf-accepted (beyondOf farthest d) 4 _ (two .1) in
       let five = refusedIf-accepted (badKernel kernel) 5 _ (four .1) in
       let six = nothing-bad range n 1 line .0 (ofFound-accepted (firstBad range n 1 line) (five .1)) in
       let buffers = or-false (short (length line) n) _ (two .0) in
-      let others = or-false (short result n) (short work (2 * n)) (buffers .1) in
+      let others = or-false (short result n) _ (buffers .1) in
       let side = side-good (one .0) in
       record {
         some = side .0;
