@@ -15,6 +15,8 @@ use Rattle.arith.proofs.Ring.{ring, reify, vars1}
 use Rattle.arith.proofs.Machine.{read-back}
 use Rattle.arith.proofs.Compute.{Code, arg, cast, _>>ᵐ_, Ranges, need, value}
 use Rattle.kernels.specs.Kernel.{Linear, weight}
+use Rattle.lines.specs.declared.TwoWeights.{TwoWeights}
+use Rattle.lines.specs.InPlace.{Middle, Shares}
 use Rattle.lines.proofs.two_weights.Statement.{statement}
 use Rattle.lines.proofs.two_weights.Tie as tie
 
@@ -28,6 +30,15 @@ second-weight = vars1 _ (simp reify (λ ρ. ring tt))
 rest : (f : ℤ) → pos 0 ≤ℤ f → f <ℤ pos 4096
     → (natAbs f ≤ 4096) × (natAbs (pos 4096 -ℤ f) ≤ 4096) × (pos 0 ≤ℤ (pos 4096 -ℤ f)) × (pos 4096 -ℤ f +ℤ f ≡ pos 4096)
 rest = all1 _ (simp bridge (omega arith))
+
+-- so these two are what is asked
+abbrev two : ℤ → ℤ → TwoWeights
+two x y = record { here = x; next = y }
+
+two-of : (f x y : ℤ) → x ≡ pos 4096 -ℤ f → y ≡ f → pos 0 ≤ℤ f → f <ℤ pos 4096 → Middle f (two x y) × Shares (two x y)
+two-of f x y e e′ low high =
+    let r = rest f low high in
+    rw (e, e′) (record { first = first-weight f; second = second-weight f }, record { here-low = r .2; next-low = low; whole = r .3 })
 
 -- D² times x, divided by D²
 abbrev code : ℤ → Code w32
@@ -71,13 +82,10 @@ returns : tie.Need-returns
 returns c =
     let p = c .before .before .before .before in
     let w = p .four-weights .result in
-    rw (
-      value (code (w .w1)) (first-ranges p) ∙ divided (w .w1) (pos 4096 -ℤ f p) (share p .1) (first-is p),
-      value (code (w .w2)) (second-ranges p) ∙ divided (w .w2) (f p) (share p .0) (second-is p),
-    ) (
-      record { first = first-weight (f p); second = second-weight (f p) },
-      record { here-low = share p .2; next-low = p .before .before .pre .0; whole = share p .3 },
-    )
+    two-of (f p) _ _
+    (value (code (w .w1)) (first-ranges p) ∙ divided (w .w1) (pos 4096 -ℤ f p) (share p .1) (first-is p))
+    (value (code (w .w2)) (second-ranges p) ∙ divided (w .w2) (f p) (share p .0) (second-is p))
+    (p .before .before .pre .0) (p .before .before .pre .1)
 
 pub two-weights-spec : {M : Type 1} → statement M
 two-weights-spec =
