@@ -70,13 +70,12 @@ first-bad-sample = refl
 -- of two neighbouring numbers that both apply the lower is told
 lower-of-two :
     map verdictOf
-    (call 0 0 (pos 0) [] 0 0
-    ∷ call 1025 0 (pos 0) [] 0 0
+    (call 1025 0 (pos 0) [] 0 0
     ∷ call 3 0 (pos 4194305) past 3 5
     ∷ call 3 3 (pos 4194305) past 3 6
     ∷ call 3 3 (pos 0) past 3 6
     ∷ [])
-    ≡ Refused 1 0 0 ∷ Refused 1 0 0 ∷ Refused 2 0 0 ∷ Refused 4 0 0 ∷ Refused 5 0 0 ∷ []
+    ≡ Refused 1 0 0 ∷ Refused 2 0 0 ∷ Refused 4 0 0 ∷ Refused 5 0 0 ∷ []
 unfolding judged tooShort badSide short badKernel beyondOf firstBad firstFrom
 lower-of-two = refl
 
