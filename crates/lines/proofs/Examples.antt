@@ -79,12 +79,17 @@ lower-of-two :
 unfolding judged tooShort badSide short badKernel beyondOf firstBad firstFrom
 lower-of-two = refl
 
--- number, row, column and count: of a refused call, of a move by half a sample, and of one by a whole sample
+-- number, row, column and count: of a refused call, of a move by a 4,096th of a sample either way, and of one by a whole sample
 abbrev figures : Call → List ℕ
 figures c = let r = outcome c in numberOf r ∷ rowOf r ∷ columnOf r ∷ countOf r ∷ []
 
 figures-of-outcomes :
-    map figures (call 3 0 (pos 2048) past 3 6 ∷ call 2 0 (pos 2048) ends 2 4 ∷ call 2 0 (negsuc 4095) ends 2 4 ∷ [])
-    ≡ (6 ∷ 0 ∷ 1 ∷ 0 ∷ []) ∷ (0 ∷ 0 ∷ 0 ∷ 1 ∷ []) ∷ (0 ∷ 0 ∷ 0 ∷ 0 ∷ []) ∷ []
+    map figures
+    (call 3 0 (pos 2048) past 3 6
+    ∷ call 2 0 (pos 1) ends 2 4
+    ∷ call 2 0 (negsuc 0) ends 2 4
+    ∷ call 2 0 (negsuc 4095) ends 2 4
+    ∷ [])
+    ≡ (6 ∷ 0 ∷ 1 ∷ 0 ∷ []) ∷ (0 ∷ 0 ∷ 0 ∷ 1 ∷ []) ∷ (0 ∷ 0 ∷ 0 ∷ 1 ∷ []) ∷ (0 ∷ 0 ∷ 0 ∷ 0 ∷ []) ∷ []
 unfolding outcomeOf isInterpolated fraction remainder floor judged tooShort badSide short badKernel beyondOf firstBad firstFrom
 figures-of-outcomes = refl
