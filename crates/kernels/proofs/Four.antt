@@ -12,7 +12,7 @@ use Rattle.arith.proofs.Laws.{natAbs-*ℤ-≤}
 use Rattle.arith.specs.Sum.{Σ}
 use Rattle.kernels.specs.declared.FourWeights.{FourWeights}
 use Rattle.kernels.specs.Kernel.{Kernel, Linear, Keys, Spline, weight, weigh}
-use Rattle.kernels.specs.Four.{fourWeights, weightedSum, Modest, Weighable}
+use Rattle.kernels.specs.Four.{fourWeights, weightedSum, Modest, largest, Weighable}
 use Rattle.kernels.proofs.Weights.{most, weights-sizes}
 
 -- every kernel's sizes together are at most 6·D³
@@ -45,7 +45,7 @@ pub record Fitting (p q r s : ℤ) : Type 0 where
   pub four : SFits w64 (p +ℤ q +ℤ r +ℤ s)
   pub size : natAbs (p +ℤ q +ℤ r +ℤ s) ≤ 5836666354022744064
 
-sums : (p q r s : ℤ) (i j k l : ℕ) → natAbs p ≤ i * 14155779 → natAbs q ≤ j * 14155779 → natAbs r ≤ k * 14155779 → natAbs s ≤ l * 14155779
+sums : (p q r s : ℤ) (i j k l : ℕ) → natAbs p ≤ i * largest → natAbs q ≤ j * largest → natAbs r ≤ k * largest → natAbs s ≤ l * largest
     → i + j + k + l ≤ 412316860416
     → SFits w64 p × SFits w64 q × SFits w64 (p +ℤ q) × SFits w64 r × SFits w64 (p +ℤ q +ℤ r) × SFits w64 s × SFits w64 (p +ℤ q +ℤ r +ℤ s)
     × (natAbs (p +ℤ q +ℤ r +ℤ s) ≤ 5836666354022744064)

@@ -1,7 +1,7 @@
 -- The call that moves one line: what an accepted call has passed, what its buffers hold at each step, and the answer in either case.
 -- Assumes nothing.
 use mathlib.Core.Path.{_≡_, sym, ap, _∙_}
-use mathlib.Core.Bool.{Bool, _||_}
+use mathlib.Core.Bool.{Bool, cond}
 use mathlib.Core.List.{List, _++_}
 use Prim.Native.Nat.{ℕ, _+_, _*_, _≤_}
 use native.Mathlib.Omega.{arith}
@@ -14,6 +14,7 @@ use Rattle.lists.proofs.Grid.{put-front}
 use Rattle.refusals.specs.declared.Verdict.the-variants as verdict
 use Rattle.refusals.specs.Tests.{badSide, short, badKernel, beyondOf, firstBad}
 use Rattle.refusals.specs.Judging.{whenAccepted}
+use Rattle.refusals.specs.Judging as judging
 use Rattle.refusals.proofs.Tests.{or-false, side-good, short-good, kernel-good, beyond-good}
 use Rattle.refusals.proofs.First.{nothing-bad}
 use Rattle.refusals.proofs.Judging.{refusedIf-accepted, ofFound-accepted}
@@ -29,12 +30,12 @@ module _ (n kernel : ℕ) (d : ℤ) (line : List ℤ) (result work : ℕ) where
   unfolding judged tooShort
   accepted e =
       let one = refusedIf-accepted (badSide n) 1 _ e in
-      let two = refusedIf-accepted (short (length line) n || (short result n || short work (2 * n))) 2 _ (one .1) in
+      let two = refusedIf-accepted (tooShort n (length line) result work) 2 _ (one .1) in
       let four = refusedIf-accepted (beyondOf farthest d) 4 _ (two .1) in
       let five = refusedIf-accepted (badKernel kernel) 5 _ (four .1) in
       let six = nothing-bad range n 1 line .0 (ofFound-accepted (firstBad range n 1 line) (five .1)) in
       let buffers = or-false (short (length line) n) _ (two .0) in
-      let others = or-false (short result n) (short work (2 * n)) (buffers .1) in
+      let others = or-false (short result n) _ (buffers .1) in
       let side = side-good (one .0) in
       record {
         some = side .0;
@@ -55,6 +56,10 @@ module _ (n kernel : ℕ) (d : ℤ) (line result work : List ℤ) where
   line-refused number row column e =
       record {
         outcome = ap (λ v. outcomeBy v (isInterpolated d)) (sym e);
+        number = ap judging.numberOf (sym e);
+        row = ap judging.rowOf (sym e);
+        column = ap judging.columnOf (sym e);
+        count = ap (λ v. whenAccepted v (cond (isInterpolated d) 1 0) 0) (sym e);
         result = ap (λ v. whenAccepted v (move (kernelOf kernel) d (take n line) ++ drop n result) result) (sym e);
         work = ap (λ v. whenAccepted v (replicate (2 * n) (pos 0) ++ drop (2 * n) work) work) (sym e);
       }
@@ -67,6 +72,10 @@ module _ (n kernel : ℕ) (d : ℤ) (line result work : List ℤ) where
   line-moved result′ work′ interpolated e i r w =
       record {
         outcome = ap Moved i ∙ ap (λ v. outcomeBy v (isInterpolated d)) (sym e);
+        number = ap judging.numberOf (sym e);
+        row = ap judging.rowOf (sym e);
+        column = ap judging.columnOf (sym e);
+        count = ap (λ b. cond b 1 0) i ∙ ap (λ v. whenAccepted v (cond (isInterpolated d) 1 0) 0) (sym e);
         result = r ∙ ap (λ v. whenAccepted v (move (kernelOf kernel) d (take n line) ++ drop n result) result) (sym e);
         work = w ∙ ap (λ v. whenAccepted v (replicate (2 * n) (pos 0) ++ drop (2 * n) work) work) (sym e);
       }

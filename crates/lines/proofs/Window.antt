@@ -4,19 +4,21 @@ use mathlib.Core.List.{List}
 use Prim.Native.Nat.{ℕ, _+_, _*_, _-_, _≤_, _<_}
 use native.Mathlib.Omega.{arith}
 use lib.Dec.{lit<}
-use lib.IntN.{ℤ, pos, natAbs, _+ℤ_, _-ℤ_, _*ℤ_}
+use lib.IntN.{ℤ, pos, natAbs, _+ℤ_, _*ℤ_}
 use lib.ListN.{length, getD}
-use Rattle.arith.proofs.Ring.{ring, reify, vars5}
+use Rattle.arith.proofs.Ring.{var, reify, vars7}
+use Rattle.arith.proofs.Cert.{equal, _⊙_, _⊜_}
 use Rattle.arith.proofs.Round.{round-scale}
 use Rattle.arith.specs.Whole.{round}
 use Rattle.lists.specs.Line.{wrap, line}
 use Rattle.lists.proofs.Cyclic.{wrap-own, wrap-periodic, wrap-every, periods}
 use Rattle.lists.proofs.Tab.{Filled, fill-end}
-use Rattle.kernels.specs.Kernel.{Kernel, Linear}
+use Rattle.kernels.specs.Kernel.{Kernel, Linear, weight}
 use Rattle.kernels.specs.Four.{fourWeights, weightedSum}
 use Rattle.kernels.proofs.Four.{weigh-four}
+use Rattle.lines.specs.declared.TwoWeights.{TwoWeights}
 use Rattle.lines.specs.Move.{divisor}
-use Rattle.lines.specs.InPlace.{near, weighedAt, weighed}
+use Rattle.lines.specs.InPlace.{Middle, near, weighedAt, weighed}
 
 -- ---- where the four places lie: j - 1 + i is place k, m lines on
 pub near-is : (s : List ℤ) (j i k m : ℕ) → j + (length s - 1) + i ≡ k + length s * m → k < length s → near s j i ≡ getD s k (pos 0)
@@ -70,17 +72,19 @@ pub weighed-four : (κ : Kernel) (f : ℤ) (s : List ℤ) (j : ℕ) (a b c e r :
 unfolding weighedAt
 weighed-four κ f s j a b c e r w x h = h ∙ rw (w .back, w .here, w .next, x) (ap (λ p. round p (divisor κ)) (sym (weigh-four κ f (near s j))))
 
--- linear: D² cancels from the weights and the divisor
-linear-sum : (x a b y f : ℤ) → weightedSum (fourWeights Linear f) x a b y ≡ pos 16777216 *ℤ (a *ℤ (pos 4096 -ℤ f) +ℤ b *ℤ f)
+-- linear: the outer two weights are 0, and D² cancels from the middle two and the divisor
+linear-sum : (x a b y f p q : ℤ) → weight Linear f 1 ≡ pos 16777216 *ℤ p → weight Linear f 2 ≡ pos 16777216 *ℤ q
+    → weightedSum (fourWeights Linear f) x a b y ≡ pos 16777216 *ℤ (a *ℤ p +ℤ b *ℤ q)
 unfolding weightedSum
-linear-sum = vars5 _ (simp reify (λ ρ. ring tt))
+linear-sum = vars7 _ (simp reify (λ ρ e e′. equal (var 1 ⊙ e ⊜ var 2 ⊙ e′) tt))
 
-pub weighed-linear : (f : ℤ) (s : List ℤ) (j : ℕ) (a b r : ℤ) → a ≡ near s j 1 → b ≡ near s j 2
-    → r ≡ round (a *ℤ (pos 4096 -ℤ f) +ℤ b *ℤ f) 4096 → r ≡ weighedAt Linear f s j
+pub weighed-linear : (f : ℤ) (s : List ℤ) (j : ℕ) (a b r : ℤ) (w : TwoWeights) → Middle f w → a ≡ near s j 1 → b ≡ near s j 2
+    → r ≡ round (a *ℤ w .here +ℤ b *ℤ w .next) 4096 → r ≡ weighedAt Linear f s j
 unfolding weighedAt
-weighed-linear f s j a b r ea eb h =
-    h ∙ sym (round-scale 16777216 (a *ℤ (pos 4096 -ℤ f) +ℤ b *ℤ f) 4096 (lit< tt) (lit< tt))
-    ∙ ap (λ p. round p 68719476736) (sym (linear-sum (near s j 0) a b (near s j 3) f) ∙ rw (ea, eb) (sym (weigh-four Linear f (near s j))))
+weighed-linear f s j a b r w m ea eb h =
+    h ∙ sym (round-scale 16777216 (a *ℤ w .here +ℤ b *ℤ w .next) 4096 (lit< tt) (lit< tt))
+    ∙ ap (λ p. round p 68719476736)
+    (sym (linear-sum (near s j 0) a b (near s j 3) f (w .here) (w .next) (m .first) (m .second)) ∙ rw (ea, eb) (sym (weigh-four Linear f (near s j))))
 
 -- all places weighed
 pub weighed-end : (κ : Kernel) (f : ℤ) (s t : List ℤ) (j : ℕ) → Filled (weighedAt κ f s) s j t → j ≡ length s → t ≡ weighed κ f s

@@ -1,6 +1,6 @@
 -- What the call that moves one line answers, accepted or refused, and what it leaves in the lent buffers. Assumes nothing.
 use mathlib.Core.Path.{_≡_}
-use mathlib.Core.Bool.{Bool, _||_}
+use mathlib.Core.Bool.{Bool, _||_, cond}
 use mathlib.Core.List.{List, _++_}
 use Prim.Native.Nat.{ℕ, _*_, _≤_}
 use lib.Dec.{ltb}
@@ -11,6 +11,7 @@ use Rattle.refusals.specs.declared.Verdict.{Verdict}
 use Rattle.refusals.specs.declared.Verdict.the-variants as verdict
 use Rattle.refusals.specs.Tests.{badSide, short, badKernel, beyondOf, firstBad, AllWithin}
 use Rattle.refusals.specs.Judging.{refusedIf, ofFound, whenAccepted}
+use Rattle.refusals.specs.Judging as judging
 use Rattle.kernels.specs.Kernel.{kernelOf}
 use Rattle.lines.specs.declared.LineOutcome.{LineOutcome}
 use Rattle.lines.specs.declared.LineOutcome.the-variants.{Moved, Refused}
@@ -58,7 +59,7 @@ outcomeBy (verdict.Refused number row column) interpolated = Refused number row 
 unfoldable pub outcomeOf : ℕ → ℕ → ℤ → List ℤ → ℕ → ℕ → LineOutcome
 outcomeOf n kernel d line result work = outcomeBy (judged n kernel d line result work) (isInterpolated d)
 
--- the figures of an outcome: a refused call's are 0 but for its number, and the row and the column under 6
+-- document 01's figures of an outcome: an accepted call has number, row and column 0
 abbrev pub numberOf : LineOutcome → ℕ
 numberOf (Moved interpolated) = 0
 numberOf (Refused number row column) = number
@@ -71,9 +72,19 @@ abbrev pub columnOf : LineOutcome → ℕ
 columnOf (Moved interpolated) = 0
 columnOf (Refused number row column) = column
 
+-- an interpolated line counts 1
+abbrev pub countOf : LineOutcome → ℕ
+countOf (Moved interpolated) = cond interpolated 1 0
+countOf (Refused number row column) = 0
+
 -- the call: its outcome, and what the result and the work hold afterwards, from `result₀` and `work₀`
 pub record LineMoved (n kernel : ℕ) (d : ℤ) (line result₀ work₀ result₁ work₁ : List ℤ) (r : LineOutcome) : Type 0 where
   pub outcome : r ≡ outcomeOf n kernel d line (length result₀) (length work₀)
+  -- the figures are the verdict's, and refused the count is 0
+  pub number : numberOf r ≡ judging.numberOf (judged n kernel d line (length result₀) (length work₀))
+  pub row : rowOf r ≡ judging.rowOf (judged n kernel d line (length result₀) (length work₀))
+  pub column : columnOf r ≡ judging.columnOf (judged n kernel d line (length result₀) (length work₀))
+  pub count : countOf r ≡ whenAccepted (judged n kernel d line (length result₀) (length work₀)) (cond (isInterpolated d) 1 0) 0
   -- accepted, the first n places hold the moved line
   pub result :
       result₁ ≡ whenAccepted (judged n kernel d line (length result₀) (length work₀)) (move (kernelOf kernel) d (take n line) ++ drop n result₀) result₀

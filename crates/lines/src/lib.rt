@@ -9,7 +9,7 @@ ghost use mathlib.Core.Path.{_≡_};
 ghost use mathlib.Core.List.{_++_};
 ghost use Prim.Native.Nat.{_*_, _≤_, _<_};
 ghost use lib.ListN.{length, take, drop, replicate};
-ghost use lib.IntN.{pos, natAbs, _+ℤ_, _-ℤ_, _*ℤ_};
+ghost use lib.IntN.{pos, natAbs, _+ℤ_, _*ℤ_};
 ghost use lib.Signed.{_≤ℤ_, _<ℤ_};
 ghost use Rattle.arith.specs.Whole.{round};
 ghost use Rattle.refusals.specs.Tests.{AllWithin};
@@ -17,7 +17,7 @@ ghost use Rattle.kernels.specs.Kernel.{kernelOf, Linear};
 ghost use Rattle.kernels.specs.Four.{weightedSum, Modest, Weighable};
 ghost use Rattle.lines.specs.Move.{divisor, move};
 ghost use Rattle.lines.specs.Answer.{tooShort, judged, Movable, isInterpolated, LineMoved};
-ghost use Rattle.lines.specs.InPlace.{weighed-size, prepared, weighed, turn};
+ghost use Rattle.lines.specs.InPlace.{Middle, Shares, weighed-size, prepared, weighed, turn};
 use kernels::FourWeights;
 use refusals::Verdict;
 
@@ -33,12 +33,31 @@ fn wide(x: i32) -> i64
     x as i64
 }
 
-// f parts of 4,096 on the way from a to b. D² cancels from linear's weights and divisor, so 32 bits hold it.
-fn between(a: i32, b: i32, f: i32) -> i32
-    requires { ⌜ (natAbs a ≤ 294912) × (natAbs b ≤ 294912) × (pos 0 ≤ℤ f) × (f <ℤ pos 4096) ⌝ }
-    ensures { λ r. ⌜ r ≡ round (a *ℤ (pos 4096 -ℤ f) +ℤ b *ℤ f) 4096 ⌝ }
+// Linear's weights of a place and of the one after it, in 4,096ths.
+struct TwoWeights {
+    here: i32,
+    next: i32,
+}
+
+// The two middle weights of linear's rows at f, once a line; the outer two are 0. D² cancels from the weights and the divisor, so 32 bits
+// hold what is weighed.
+fn two_weights(f: i32) -> TwoWeights
+    requires { ⌜ (pos 0 ≤ℤ f) × (f <ℤ pos 4096) ⌝ }
+    ensures { λ w. ⌜ Middle f w × Shares w ⌝ }
 {
-    (a * (4096 - f) + b * f + 2048) >> 12
+    let w = kernels::four_weights(0, wide(f));
+    TwoWeights {
+        here: (w.w1 >> 24) as i32,
+        next: (w.w2 >> 24) as i32,
+    }
+}
+
+// Two samples weighed, and divided to the nearest, halves upward.
+fn between(a: i32, b: i32, w: TwoWeights) -> i32
+    requires { ⌜ (natAbs a ≤ 294912) × (natAbs b ≤ 294912) × Shares w ⌝ }
+    ensures { λ r. ⌜ r ≡ round (a *ℤ w .here +ℤ b *ℤ w .next) 4096 ⌝ }
+{
+    (a * w.here + b * w.next + 2048) >> 12
 }
 
 // A line weighed by the linear kernel where it stands.
@@ -47,14 +66,15 @@ fn weigh_linear(line: &mut [i32], f: i32)
     requires { ⌜ AllWithin 294912 (length (now line)) (now line) ⌝ }
     ensures { λ _. ⌜ now (line .exit) ≡ weighed Linear f (now (line .entry)) ⌝ }
 {
+    let w = two_weights(f);
     let n = line.len();
     let first = line[0];
     let mut j: usize = 0;
     while j + 1 < n {
-        line[j] = between(line[j], line[j + 1], f);
+        line[j] = between(line[j], line[j + 1], w);
         j += 1;
     }
-    line[j] = between(line[j], first, f);
+    line[j] = between(line[j], first, w);
 }
 
 // A weighted sum divided by the kernel's divisor, to the nearest, halves upward: Keys' is 2³⁷, the spline's 3·2⁴¹. The spline's quotient by

@@ -7,13 +7,13 @@ use native.Mathlib.Nat.{add-suc, lt-irrefl}
 use native.Mathlib.Omega.{arith}
 use lib.IntN.{ℤ, pos, negsuc, negℤ, natAbs, _+ℤ_, _-ℤ_, _*ℤ_}
 use lib.Signed.{_≤ℤ_, _<ℤ_}
-use Rattle.arith.proofs.Bridge.{bridge, all2, all3}
-use Rattle.arith.proofs.Ring.{var, ⊟_, _⊠_, ring, reify, vars4, vars6, vars7, vars8}
+use Rattle.arith.proofs.Bridge.{bridge, all2}
+use Rattle.arith.proofs.Ring.{var, ⊟_, _⊠_, ring, reify, vars4, vars7, vars8}
 use Rattle.arith.proofs.Cert.{linear, rounding, equal, between, above, below, _⊕_, _⊗_, _·_, _⊙_, _⊜_}
 use Rattle.arith.proofs.Laws.{*ℤ-nonNeg, ≤ℤ-of-<ℤ, cancel, *ℤ-positive}
 use Rattle.arith.specs.Sum.{maxAbs}
 use Rattle.arith.proofs.Sums.{maxAbs-upper, maxAbs-attained}
-use Rattle.spline.specs.Exact.{smoothed, Coefficients, Solution}
+use Rattle.spline.specs.Exact.{smooth, smoothed, Coefficients, Solution}
 use Rattle.lists.specs.Line.{Line, Periodic}
 use Rattle.lists.proofs.Cyclic.{everywhere}
 use Rattle.arith.proofs.Within.{Within, size-within}
@@ -22,26 +22,19 @@ use Rattle.arith.proofs.Within.{Within, size-within}
 pub shifted : {S C : Line} {q Q : ℤ} (o : ℕ) → Coefficients S q C Q → Coefficients (λ k. S (o + k)) q (λ k. C (o + k)) Q
 shifted o c = record { solves = λ k. rw (add-suc o (suc k), add-suc o k) (c .solves (o + k)) }
 
--- ---- the bound: at the greatest |y| of the C, 4·|y| is not above 6·|s| and 2·|y|; t is the sum of y's neighbours, m is |y|
-at-top : (t m s M q Q : ℤ) → Within (pos 2 *ℤ m) t → Within M s → pos 0 ≤ℤ q → pos 0 ≤ℤ Q → (t +ℤ pos 4 *ℤ m) *ℤ q ≡ pos 6 *ℤ s *ℤ Q
+-- ---- the bound: at the greatest |y| of the C, 4·|y| is not above 6·|s| and 2·|y|; m is |y|
+at-top : (x z m s M q Q : ℤ) → Within m x → Within m z → Within M s → pos 0 ≤ℤ q → pos 0 ≤ℤ Q → smooth x m z *ℤ q ≡ pos 6 *ℤ s *ℤ Q
     → (m *ℤ q) ≤ℤ (pos 3 *ℤ M *ℤ Q)
-at-top = vars6 _ (simp reify (λ ρ t s q Q e. rounding 1 (6 · (s .1 ⊗ Q) ⊕ t .0 ⊗ q ⊕ below e) tt))
+at-top = vars7 _ (simp reify (λ ρ x z s q Q e. rounding 1 (6 · (s .1 ⊗ Q) ⊕ x .0 ⊗ q ⊕ z .0 ⊗ q ⊕ below e) tt))
 
-at-bottom : (t m s M q Q : ℤ) → Within (pos 2 *ℤ m) t → Within M s → pos 0 ≤ℤ q → pos 0 ≤ℤ Q → (t +ℤ pos 4 *ℤ negℤ m) *ℤ q ≡ pos 6 *ℤ s *ℤ Q
+at-bottom : (x z m s M q Q : ℤ) → Within m x → Within m z → Within M s → pos 0 ≤ℤ q → pos 0 ≤ℤ Q → smooth x (negℤ m) z *ℤ q ≡ pos 6 *ℤ s *ℤ Q
     → (m *ℤ q) ≤ℤ (pos 3 *ℤ M *ℤ Q)
-at-bottom = vars6 _ (simp reify (λ ρ t s q Q e. rounding 1 (6 · (s .0 ⊗ Q) ⊕ t .1 ⊗ q ⊕ above e) tt))
-
-sum-within : (x z m : ℤ) → Within m x → Within m z → Within (pos 2 *ℤ m) (x +ℤ z)
-sum-within = all3 _ (simp bridge (omega arith))
-
-neighbours : (x y z : ℤ) → x +ℤ z +ℤ pos 4 *ℤ y ≡ x +ℤ pos 4 *ℤ y +ℤ z
-neighbours = all3 _ (simp bridge (omega arith))
+at-bottom = vars7 _ (simp reify (λ ρ x z s q Q e. rounding 1 (6 · (s .0 ⊗ Q) ⊕ x .1 ⊗ q ⊕ z .1 ⊗ q ⊕ above e) tt))
 
 peak : (x y z s M q Q : ℤ) → Within (pos (natAbs y)) x → Within (pos (natAbs y)) z → Within M s → pos 0 ≤ℤ q → pos 0 ≤ℤ Q
-    → (x +ℤ pos 4 *ℤ y +ℤ z) *ℤ q ≡ pos 6 *ℤ s *ℤ Q → (pos (natAbs y) *ℤ q) ≤ℤ (pos 3 *ℤ M *ℤ Q)
-peak x (pos a) z s M q Q hx hz hs hq hQ e = at-top (x +ℤ z) (pos a) s M q Q (sum-within x z (pos a) hx hz) hs hq hQ (ap (λ t. t *ℤ q) (neighbours x (pos a) z) ∙ e)
-peak x (negsuc a) z s M q Q hx hz hs hq hQ e =
-    at-bottom (x +ℤ z) (pos (suc a)) s M q Q (sum-within x z (pos (suc a)) hx hz) hs hq hQ (ap (λ t. t *ℤ q) (neighbours x (negsuc a) z) ∙ e)
+    → smooth x y z *ℤ q ≡ pos 6 *ℤ s *ℤ Q → (pos (natAbs y) *ℤ q) ≤ℤ (pos 3 *ℤ M *ℤ Q)
+peak x (pos a) z s M q Q = at-top x z (pos a) s M q Q
+peak x (negsuc a) z s M q Q = at-bottom x z (pos (suc a)) s M q Q
 
 spread : (c m q B : ℤ) → Within m c → pos 0 ≤ℤ q → (m *ℤ q) ≤ℤ B → Within B (c *ℤ q)
 spread = vars4 _ (simp reify (λ ρ c q B. (linear (c .0 ⊗ q ⊕ B) tt, linear (c .1 ⊗ q ⊕ B) tt)))
@@ -65,15 +58,14 @@ coefficients-bound {N = suc n} {S} {C} {q} {Q} M h p hq hQ c b k = spread (C k) 
 
 -- ---- two lines: m times the difference of their coefficients are the coefficients of m times their difference
 regroup : (x y z x′ y′ z′ Q Q′ : ℤ)
-    → (x *ℤ Q′ -ℤ x′ *ℤ Q) +ℤ pos 4 *ℤ (y *ℤ Q′ -ℤ y′ *ℤ Q) +ℤ (z *ℤ Q′ -ℤ z′ *ℤ Q) ≡ (x +ℤ pos 4 *ℤ y +ℤ z) *ℤ Q′ -ℤ (x′ +ℤ pos 4 *ℤ y′ +ℤ z′) *ℤ Q
+    → smooth (x *ℤ Q′ -ℤ x′ *ℤ Q) (y *ℤ Q′ -ℤ y′ *ℤ Q) (z *ℤ Q′ -ℤ z′ *ℤ Q) ≡ smooth x y z *ℤ Q′ -ℤ smooth x′ y′ z′ *ℤ Q
 regroup = vars8 _ (simp reify (λ ρ. ring tt))
 
 combine : (t t′ s s′ q q′ Q Q′ : ℤ) → t *ℤ q ≡ pos 6 *ℤ s *ℤ Q → t′ *ℤ q′ ≡ pos 6 *ℤ s′ *ℤ Q′
     → (t *ℤ Q′ -ℤ t′ *ℤ Q) *ℤ (q *ℤ q′) ≡ pos 6 *ℤ (s *ℤ q′ -ℤ s′ *ℤ q) *ℤ (Q *ℤ Q′)
 combine = vars8 _ (simp reify (λ ρ e e′. equal ((var 7 ⊠ var 5) ⊙ e ⊜ (⊟ (var 6 ⊠ var 4)) ⊙ e′) tt))
 
-multiple : (m x y z s q Q : ℤ) → (x +ℤ pos 4 *ℤ y +ℤ z) *ℤ q ≡ pos 6 *ℤ s *ℤ Q
-    → (m *ℤ x +ℤ pos 4 *ℤ (m *ℤ y) +ℤ m *ℤ z) *ℤ q ≡ pos 6 *ℤ (m *ℤ s) *ℤ Q
+multiple : (m x y z s q Q : ℤ) → smooth x y z *ℤ q ≡ pos 6 *ℤ s *ℤ Q → smooth (m *ℤ x) (m *ℤ y) (m *ℤ z) *ℤ q ≡ pos 6 *ℤ (m *ℤ s) *ℤ Q
 multiple = vars7 _ (simp reify (λ ρ e. equal (var 0 ⊙ e) tt))
 
 module _ {N : ℕ} {S S′ C C′ : Line} {q q′ Q Q′ : ℤ} (h : 0 < N) (hq : pos 0 <ℤ q) (hq′ : pos 0 <ℤ q′) (e : Solution N S q C Q) (e′ : Solution N S′ q′ C′ Q′) where

@@ -14,7 +14,7 @@ use Rattle.lists.specs.Tab.{tab}
 use Rattle.lists.proofs.Tab.{tab-length}
 use Rattle.arith.proofs.Within.{Within, size-within}
 use Rattle.spline.specs.Coefficients.{coefficient}
-use Rattle.spline.specs.Exact.{Solution}
+use Rattle.spline.specs.Exact.{Solution, tolerance}
 use Rattle.spline.proofs.Exact.{coefficients-only}
 use Rattle.spline.proofs.Existence.{exact, denominator, exact-solution}
 use Rattle.spline.proofs.Near.{coefficient-within}
@@ -48,12 +48,13 @@ module _ (s : List ℤ) (h : 0 < length s) where
       rw (← wrap-own (length s) (line C) k l, ← wrap-own (length s) (line C′) k l) (coefficients-only h (ltZ-yes tt) (ltZ-yes tt) (a .solution)
       (a′ .solution) (λ i. refl) k)
 
+  -- each c(k) is within 4 of 16 times the exact one
   pub coefficient-error : {C : List ℤ} {Q : ℤ} → ((k : ℕ) → k < length s → natAbs (line s k) ≤ 294912) → ExactCoefficients s C Q → (k : ℕ)
       → k < length s → natAbs (coefficient (length s) (line s) k *ℤ Q -ℤ pos 16 *ℤ line C k) ≤ 4 * natAbs Q
   coefficient-error {C} {Q} small a k l =
-      size (coefficient (length s) (line s) k *ℤ Q -ℤ pos 16 *ℤ line C k) Q (a .solution .positive) (subst (λ c. Within (pos 4 *ℤ Q)
+      size (coefficient (length s) (line s) k *ℤ Q -ℤ pos 16 *ℤ line C k) Q (a .solution .positive) (subst (λ c. Within (pos tolerance *ℤ Q)
       (coefficient (length s) (line s) k *ℤ Q -ℤ pos 16 *ℤ c)) (wrap-own (length s) (line C) k l) (coefficient-within h
       (λ i m. size-within (line s i) 294912 (small i m)) (a .solution) k l))
     where
-      size : (x Q : ℤ) → pos 0 <ℤ Q → Within (pos 4 *ℤ Q) x → natAbs x ≤ 4 * natAbs Q
+      size : (x Q : ℤ) → pos 0 <ℤ Q → Within (pos tolerance *ℤ Q) x → natAbs x ≤ 4 * natAbs Q
       size = all2 _ (simp bridge (omega arith))

@@ -15,7 +15,7 @@ use Rattle.arith.proofs.Cert.{equal, _⊙_}
 use Rattle.arith.proofs.Laws.{*ℤ-positive}
 use Rattle.lists.specs.Line.{Line, Periodic}
 use Rattle.arith.proofs.Within.{Within}
-use Rattle.spline.specs.Exact.{smoothed, Coefficients, Solution}
+use Rattle.spline.specs.Exact.{smooth, smoothed, Coefficients, Solution}
 use Rattle.spline.proofs.Exact.{coefficients-bound}
 
 -- ---- the sequence from a and b
@@ -37,7 +37,7 @@ grow-smoothed : (s : Line) (a b : ℤ) (k : ℕ) → smoothed (grow s a b) k ≡
 unfolding grow
 grow-smoothed s a b k = next (grow s a b k) (grow s a b (suc k)) (pos 6 *ℤ s (suc k))
   where
-    next : (x y z : ℤ) → x +ℤ pos 4 *ℤ y +ℤ (z -ℤ pos 4 *ℤ y -ℤ x) ≡ z
+    next : (x y z : ℤ) → smooth x y (z -ℤ pos 4 *ℤ y -ℤ x) ≡ z
     next = all3 _ (simp bridge (omega arith))
 
 -- two sequences that are smoothed to one, and start alike, are one
@@ -46,7 +46,7 @@ agree f g e e₀ e₁ zero = e₀
 agree f g e e₀ e₁ (suc zero) = e₁
 agree f g e e₀ e₁ (suc (suc k)) = last (f k) (g k) (f (suc k)) (g (suc k)) (f (suc (suc k))) (g (suc (suc k))) (agree f g e e₀ e₁ k) (agree f g e e₀ e₁ (suc k)) (e k)
   where
-    last : (x x′ y y′ z z′ : ℤ) → x ≡ x′ → y ≡ y′ → x +ℤ pos 4 *ℤ y +ℤ z ≡ x′ +ℤ pos 4 *ℤ y′ +ℤ z′ → z ≡ z′
+    last : (x x′ y y′ z z′ : ℤ) → x ≡ x′ → y ≡ y′ → smooth x y z ≡ smooth x′ y′ z′ → z ≡ z′
     last = all6 _ (simp bridge (omega arith))
 
 -- ---- Q times the line's own sequence, closed by a and b
@@ -56,13 +56,13 @@ joint s Q a b k = Q *ℤ grow s (pos 0) (pos 0) k +ℤ a *ℤ X k +ℤ b *ℤ Y 
 smoothed-add : (f g : Line) (k : ℕ) → smoothed (λ k. f k +ℤ g k) k ≡ smoothed f k +ℤ smoothed g k
 smoothed-add f g k = add (f k) (g k) (f (suc k)) (g (suc k)) (f (suc (suc k))) (g (suc (suc k)))
   where
-    add : (x x′ y y′ z z′ : ℤ) → x +ℤ x′ +ℤ pos 4 *ℤ (y +ℤ y′) +ℤ (z +ℤ z′) ≡ x +ℤ pos 4 *ℤ y +ℤ z +ℤ (x′ +ℤ pos 4 *ℤ y′ +ℤ z′)
+    add : (x x′ y y′ z z′ : ℤ) → smooth (x +ℤ x′) (y +ℤ y′) (z +ℤ z′) ≡ smooth x y z +ℤ smooth x′ y′ z′
     add = all6 _ (simp bridge (omega arith))
 
 smoothed-times : (c : ℤ) (f : Line) (k : ℕ) → smoothed (λ k. c *ℤ f k) k ≡ c *ℤ smoothed f k
 smoothed-times c f k = times c (f k) (f (suc k)) (f (suc (suc k)))
   where
-    times : (c x y z : ℤ) → c *ℤ x +ℤ pos 4 *ℤ (c *ℤ y) +ℤ c *ℤ z ≡ c *ℤ (x +ℤ pos 4 *ℤ y +ℤ z)
+    times : (c x y z : ℤ) → smooth (c *ℤ x) (c *ℤ y) (c *ℤ z) ≡ c *ℤ smooth x y z
     times = vars4 _ (simp reify (λ ρ. ring tt))
 
 joint-smoothed : (s : Line) (Q a b : ℤ) (k : ℕ) → smoothed (joint s Q a b) k ≡ pos 6 *ℤ s (suc k) *ℤ Q

@@ -16,7 +16,7 @@ use Rattle.lists.specs.Line.{Line, wrap, Periodic}
 use Rattle.lists.proofs.Cyclic.{wrap-periodic, wrap-own, wrap-every, periods, everywhere}
 use Rattle.arith.proofs.Within.{Within, round-within}
 use Rattle.spline.specs.Coefficients.{P, T, runIn, filter, run, u, down, back, v, scaled, coefficient}
-use Rattle.spline.specs.Exact.{Coefficients, Solution}
+use Rattle.spline.specs.Exact.{smooth, Coefficients, Solution, tolerance}
 use Rattle.spline.proofs.Exact.{shifted, coefficients-bound}
 use Rattle.spline.proofs.Settle.{Follows, filter-near}
 
@@ -34,7 +34,7 @@ abbrev pub Small : ℤ → ℤ → Type 0
 Small Q x = Within (pos 884736 *ℤ Q) x
 
 -- ---- upward: the exact rule of u, where 1412236479 is 4·P·T - P² - T²
-u*-rule : (x y z s Q : ℤ) → pos 0 ≤ℤ Q → Small Q y → (x +ℤ pos 4 *ℤ y +ℤ z) *ℤ pos 1 ≡ pos 6 *ℤ s *ℤ Q
+u*-rule : (x y z s Q : ℤ) → pos 0 ≤ℤ Q → Small Q y → smooth x y z *ℤ pos 1 ≡ pos 6 *ℤ s *ℤ Q
     → Within (pos 1 *ℤ K Q *ℤ pos T) (pos 60 *ℤ (pos T *ℤ (pos (8 * T) *ℤ (pos T *ℤ y +ℤ pos P *ℤ z)) +ℤ pos P *ℤ (pos (8 * T) *ℤ (pos T *ℤ x +ℤ pos P *ℤ y)) -ℤ K Q *ℤ pos T *ℤ (pos 16 *ℤ s)))
 u*-rule = vars5 _ (simp reify (λ ρ Q y e. (
   linear ((480 * T * 1412236479) · y .1 ⊕ (3 * P * T * T - 480 * T * 1412236479 * 884736) · Q ⊕ above (lit (480 * T * T * P) ⊙ e)) tt,
@@ -182,9 +182,9 @@ module _ {N : ℕ} {s C : Line} {Q : ℤ} (h : 0 < N) (small : (k : ℕ) → k <
   unfolding coefficient scaled
   coefficient-near k l = last (coefficient N s k) (v N s k) (C k) Q hQ (round-within (pos (6 * P) *ℤ v N s k) T (omega arith)) (v-near k l)
 
-  -- each c(k) is within 4 of 16 times the exact one
-  pub coefficient-within : (k : ℕ) → k < N → Within (pos 4 *ℤ Q) (coefficient N s k *ℤ Q -ℤ pos 16 *ℤ C k)
-  coefficient-within k l = four (coefficient N s k *ℤ Q -ℤ pos 16 *ℤ C k) Q hQ (coefficient-near k l)
+  -- 37/11 is below the tolerance
+  pub coefficient-within : (k : ℕ) → k < N → Within (pos tolerance *ℤ Q) (coefficient N s k *ℤ Q -ℤ pos 16 *ℤ C k)
+  coefficient-within k l = tolerable (coefficient N s k *ℤ Q -ℤ pos 16 *ℤ C k) Q hQ (coefficient-near k l)
     where
-      four : (x Q : ℤ) → pos 0 ≤ℤ Q → Within (pos 37 *ℤ Q) (pos 11 *ℤ x) → Within (pos 4 *ℤ Q) x
-      four = all2 _ (simp bridge (omega arith))
+      tolerable : (x Q : ℤ) → pos 0 ≤ℤ Q → Within (pos 37 *ℤ Q) (pos 11 *ℤ x) → Within (pos tolerance *ℤ Q) x
+      tolerable = all2 _ (simp bridge (omega arith))

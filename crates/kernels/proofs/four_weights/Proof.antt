@@ -1,87 +1,44 @@
--- `kernels::four_weights` meets its contract: each weight is a row of the table evaluated. Assumes nothing.
-use mathlib.Core.Path.{_≡_, refl}
-use mathlib.Core.List.{List, []}
-use Prim.Native.Nat.{ℕ, _^_, _≤_, _<_}
-use borrow.Author.Needs.{needs}
-use lib.IntN.{ℤ, pos, natAbs}
-use lib.ListN.{getD}
-use lib.Signed.{mag}
-use mir.Syntax.{w64}
-use mir.Val.{toZ, ofZ, hbits}
+-- `kernels::four_weights` meets its contract: each kernel's rows, evaluated. Assumes nothing.
+use mathlib.Core.Path.{_≡_, refl, _∙_}
+use native.Mathlib.Omega.{arith}
 use mir.Facts.{toZ-ofZ}
-use Rattle.kernels.specs.Kernel.{kernelOf, evaluate, weight}
-use Rattle.kernels.proofs.Table.{table, entry-size, table-weight}
+use Rattle.kernels.specs.Kernel.{Linear, Keys, Spline}
+use Rattle.kernels.proofs.Rows.{entry-size}
 use Rattle.kernels.proofs.four_weights.Statement.{statement}
 use Rattle.kernels.proofs.four_weights.Tie as tie
 
--- the row of each place: what its weight asks, and what it is
-module _ (s : tie.Start) (place : ℕ) where
-  abbrev row : List ℤ
-  row = getD (getD table (s .args .kernel) []) place []
-
-  asks : ((j : ℕ) → natAbs (getD row j (pos 0)) ≤ 6) × (natAbs (toZ w64 (ofZ w64 (s .args .f))) ≤ 4096)
-  asks = (λ j. entry-size (s .args .kernel) place j, rw (toZ-ofZ (s .fits .f)) (s .pre .1))
-
-  is : (r : ℤ) → mag r < 2 ^ hbits w64 → r ≡ evaluate row (toZ w64 (ofZ w64 (s .args .f)))
-      → toZ w64 (ofZ w64 r) ≡ weight (kernelOf (s .args .kernel)) (s .args .f) place
-  is r k e = table-weight (s .args .kernel) place (s .args .f) _ r (s .pre .0) k (toZ-ofZ (s .fits .f)) e
-
-mul-rows : tie.Need-mul-rows
-mul-rows c = search needs
-
-array-copy-out-rows : tie.Need-array-copy-out-rows
-array-copy-out-rows c = search needs
-
-array-copy-out-evaluated : tie.Need-array-copy-out-evaluated
-array-copy-out-evaluated c = search needs
-
-array-copy-out-evaluated-2 : tie.Need-array-copy-out-evaluated-2
-array-copy-out-evaluated-2 c = search needs
-
-array-copy-out-evaluated-3 : tie.Need-array-copy-out-evaluated-3
-array-copy-out-evaluated-3 c = search needs
-
-array-copy-out-evaluated-4 : tie.Need-array-copy-out-evaluated-4
-array-copy-out-evaluated-4 c = search needs
-
-evaluated-requires : tie.Need-evaluated-requires
-evaluated-requires c κs = asks (c .before .before) 0
-
-evaluated-requires-2 : tie.Need-evaluated-requires-2
-evaluated-requires-2 c κs = asks (c .before .before .before .before) 1
-
-evaluated-requires-3 : tie.Need-evaluated-requires-3
-evaluated-requires-3 c κs = asks (c .before .before .before .before .before .before) 2
-
-evaluated-requires-4 : tie.Need-evaluated-requires-4
-evaluated-requires-4 c κs = asks (c .before .before .before .before .before .before .before .before) 3
-
 returns : tie.Need-returns
 returns c =
-    let e₂ = c .before .before in
-    let e₁ = e₂ .before .before in
-    let e₀ = e₁ .before .before in
-    let s = e₀ .before .before .before in
-    rw (
-      is s 0 (e₀ .evaluated .result) (e₀ .evaluated .ok) (e₀ .evaluated .ensures),
-      is s 1 (e₁ .evaluated2 .result) (e₁ .evaluated2 .ok) (e₁ .evaluated2 .ensures),
-      is s 2 (e₂ .evaluated3 .result) (e₂ .evaluated3 .ok) (e₂ .evaluated3 .ensures),
-      is s 3 (c .evaluated4 .result) (c .evaluated4 .ok) (c .evaluated4 .ensures),
-    )
-    refl
+    let s = c .before .before in
+    c .weights-of .ensures ∙ rw (toZ-ofZ (s .fits .f), c .before .if1 .taken) refl
+
+returns-2 : tie.Need-returns-2
+returns-2 c =
+    let s = c .before .before .before in
+    c .weights-of2 .ensures ∙ rw (toZ-ofZ (s .fits .f), c .before .if2 .taken) refl
+
+returns-3 : tie.Need-returns-3
+returns-3 c =
+    let s = c .before .before .before in
+    let e : s .args .kernel ≡ 2 = omega arith in
+    c .weights-of3 .ensures ∙ rw (toZ-ofZ (s .fits .f), e) refl
+
+weights-of-requires : tie.Need-weights-of-requires
+weights-of-requires c κs = (entry-size Linear, rw (toZ-ofZ (c .before .fits .f)) (c .before .pre .1))
+
+weights-of-requires-2 : tie.Need-weights-of-requires-2
+weights-of-requires-2 c κs = let s = c .before .before in (entry-size Keys, rw (toZ-ofZ (s .fits .f)) (s .pre .1))
+
+weights-of-requires-3 : tie.Need-weights-of-requires-3
+weights-of-requires-3 c κs = let s = c .before .before in (entry-size Spline, rw (toZ-ofZ (s .fits .f)) (s .pre .1))
 
 pub four-weights-spec : {M : Type 1} → statement M
 four-weights-spec =
     tie.close
     (tie.spec
-    mul-rows
-    array-copy-out-rows
-    array-copy-out-evaluated
-    evaluated-requires
-    array-copy-out-evaluated-2
-    evaluated-requires-2
-    array-copy-out-evaluated-3
-    evaluated-requires-3
-    array-copy-out-evaluated-4
-    evaluated-requires-4
-    returns)
+    weights-of-requires
+    returns
+    weights-of-requires-2
+    returns-2
+    weights-of-requires-3
+    returns-3)

@@ -57,7 +57,7 @@ returns-4 c =
       one-failed (b .before .before .before .before),
       two-failed (b .before .before),
       four-failed b,
-      lt-ltb _ _ (c .if4 .taken),
+      lt-ltb 2 (b .before .before .before .before .before .before .args .kernel) (omega arith),
     )
     refl
 
@@ -83,7 +83,7 @@ returns-5 c =
       one-failed (b .before .before .before .before),
       two-failed (b .before .before),
       four-failed b,
-      le-ltb _ _ (c .before .if4 .left),
+      le-ltb 2 (b .before .before .before .before .before .before .args .kernel) (omega arith),
     )
     (c .scanned .ensures)
 

@@ -53,7 +53,7 @@ module _ (s : tie.Start) where
   samples-within : (k : ℕ) → k < length line → natAbs (getD line k (pos 0)) ≤ 294912
   samples-within k l =
       let h : k < n = omega (arith, line-length) in
-      rw (getD-take n (s .args .line .now) k (pos 0) h) (s .pre .samples k h)
+      rw (getD-take n (s .args .line .now) k (pos 0) h) (omega (arith, s .pre .samples k h))
 
 far-is : (c : tie.After-wide) → toZ w64 (ofZ w64 (c .wide .result)) ≡ d (c .before)
 far-is c = read-back w64 (c .wide .result) (c .wide .ok) ∙ c .wide .ensures ∙ toZ-ofZ (c .before .fits .d)

@@ -5,7 +5,7 @@ use mathlib.Core.List.{List}
 use Prim.Native.Nat.{ℕ, _+_, _*_, _-_, _^_, _≤_, _<_}
 use native.Mathlib.Omega.{arith}
 use borrow.Author.Needs.{needs}
-use lib.IntN.{ℤ, pos, _+ℤ_, _-ℤ_, _*ℤ_}
+use lib.IntN.{ℤ, pos, _+ℤ_, _*ℤ_}
 use lib.ListN.{length, set, getD, length-set}
 use lib.Signed.{mag}
 use mir.Syntax.{w32}
@@ -15,43 +15,57 @@ use Rattle.arith.specs.Whole.{round}
 use Rattle.arith.proofs.Machine.{read-back}
 use Rattle.lists.proofs.Tab.{Filled, fill-start, fill-step, fill-ahead}
 use Rattle.kernels.specs.Kernel.{Linear}
-use Rattle.lines.specs.InPlace.{near, weighedAt}
+use Rattle.lines.specs.declared.TwoWeights.{TwoWeights}
+use Rattle.lines.specs.InPlace.{Middle, near, weighedAt}
 use Rattle.lines.proofs.Window.{near-is, weighed-linear, weighed-end}
 use Rattle.lines.proofs.weigh_linear.Statement.{statement}
 use Rattle.lines.proofs.weigh_linear.Tie as tie
 
 abbrev Inv-loop : tie.InvT-loop
-Inv-loop line₀ f n first j₀ line j = (j < length line₀) × (length line ≡ length line₀) × Filled (weighedAt Linear (toZ w32 f) line₀) line₀ j line
+Inv-loop line₀ f w n first j₀ line j = (j < length line₀) × (length line ≡ length line₀) × Filled (weighedAt Linear (toZ w32 f) line₀) line₀ j line
 
 abbrev μ-loop : tie.MeasureT-loop
-μ-loop line₀ f n first j₀ line j = n - j
+μ-loop line₀ f w n first j₀ line j = n - j
 
--- at the loop's head: t₀ is the line as it was given
-module _ (l : tie.At-loop Inv-loop μ-loop) where
+-- once the weights are there: t₀ is the line as it was given
+module _ (p : tie.After-two-weights Inv-loop μ-loop) where
   abbrev s : tie.Start Inv-loop μ-loop
-  s = l .before .before
+  s = p .before
 
   abbrev t₀ : List ℤ
   t₀ = s .args .line .now
 
+  abbrev w : TwoWeights
+  w = p .two-weights .result
+
+  middle : Middle (s .args .f) w
+  middle = rw (toZ-ofZ (s .fits .f)) at (p .two-weights .ensures .0)
+
+-- at the loop's head
+module _ (l : tie.At-loop Inv-loop μ-loop) where
+  abbrev p : tie.After-two-weights Inv-loop μ-loop
+  p = l .before .before
+
   abbrev j : ℕ
   j = l .loop .j
 
-  filled : Filled (weighedAt Linear (s .args .f) t₀) t₀ j (l .loop .line)
-  filled = rw (toZ-ofZ (s .fits .f)) at (l .loop .inv .2)
+  filled : Filled (weighedAt Linear (s p .args .f) (t₀ p)) (t₀ p) j (l .loop .line)
+  filled = rw (toZ-ofZ (s p .fits .f)) at (l .loop .inv .2)
 
   -- a place that is not yet weighed, as it is read
-  ahead : (k : ℕ) → mag (getD (l .loop .line) k (pos 0)) < 2 ^ hbits w32 → j ≤ k → toZ w32 (ofZ w32 (getD (l .loop .line) k (pos 0))) ≡ getD t₀ k (pos 0)
-  ahead k g h = read-back w32 (getD (l .loop .line) k (pos 0)) g ∙ fill-ahead _ t₀ j (l .loop .line) k (pos 0) filled h
+  ahead : (k : ℕ) → mag (getD (l .loop .line) k (pos 0)) < 2 ^ hbits w32 → j ≤ k → toZ w32 (ofZ w32 (getD (l .loop .line) k (pos 0))) ≡ getD (t₀ p) k (pos 0)
+  ahead k g h = read-back w32 (getD (l .loop .line) k (pos 0)) g ∙ fill-ahead _ (t₀ p) j (l .loop .line) k (pos 0) filled h
 
   -- place j weighed
-  step : (a b r : ℤ) → mag r < 2 ^ hbits w32 → a ≡ getD t₀ j (pos 0) → b ≡ near t₀ j 2
-      → r ≡ round (a *ℤ (pos 4096 -ℤ toZ w32 (ofZ w32 (s .args .f))) +ℤ b *ℤ toZ w32 (ofZ w32 (s .args .f))) 4096
-      → Filled (weighedAt Linear (s .args .f) t₀) t₀ (j + 1) (set (l .loop .line) j (toZ w32 (ofZ w32 r)))
+  step : (a b r : ℤ) → mag r < 2 ^ hbits w32 → a ≡ getD (t₀ p) j (pos 0) → b ≡ near (t₀ p) j 2 → r ≡ round (a *ℤ w p .here +ℤ b *ℤ w p .next) 4096
+      → Filled (weighedAt Linear (s p .args .f) (t₀ p)) (t₀ p) (j + 1) (set (l .loop .line) j (toZ w32 (ofZ w32 r)))
   step a b r g ea eb e =
-      fill-step _ t₀ j (l .loop .line) _ filled (l .loop .inv .0)
+      fill-step _ (t₀ p) j (l .loop .line) _ filled (l .loop .inv .0)
       (read-back w32 r g
-      ∙ weighed-linear (s .args .f) t₀ j a b r (ea ∙ sym (near-is t₀ j 1 j 1 (omega arith) (l .loop .inv .0))) eb (rw (toZ-ofZ (s .fits .f)) at e))
+      ∙ weighed-linear (s p .args .f) (t₀ p) j a b r (w p) (middle p) (ea ∙ sym (near-is (t₀ p) j 1 j 1 (omega arith) (l .loop .inv .0))) eb e)
+
+two-weights-requires : tie.Need-two-weights-requires Inv-loop μ-loop
+two-weights-requires c κs = rw (toZ-ofZ (c .fits .f)) (c .pre .0 .1, c .pre .0 .2)
 
 slice-copy-out-first : tie.Need-slice-copy-out-first Inv-loop μ-loop
 slice-copy-out-first c = omega arith
@@ -83,12 +97,11 @@ between-requires c κs =
     rw (
       ahead l (j l) (c .before .between-arg .given) (omega arith),
       ahead l (j l + 1) (c .between-arg2 .given) (omega arith),
-      toZ-ofZ (s l .fits .f),
     )
-    (s l .pre .1 (j l) (omega arith), s l .pre .1 (j l + 1) (omega arith), s l .pre .0 .1, s l .pre .0 .2)
+    (s (p l) .pre .1 (j l) (omega arith), s (p l) .pre .1 (j l + 1) (omega arith), p l .two-weights .ensures .1)
 
-mul-t17 : tie.Need-mul-t17 Inv-loop μ-loop
-mul-t17 c = omega arith
+mul-t18 : tie.Need-mul-t18 Inv-loop μ-loop
+mul-t18 c = omega arith
 
 slice-set-from-line : tie.Need-slice-set-from-line Inv-loop μ-loop
 slice-set-from-line c = omega arith
@@ -104,9 +117,9 @@ loop-again c =
     let l = c .before .before .before .before in (
       omega arith,
       simp length-set (omega arith),
-      rw (toZ-ofZ (s l .fits .f))
+      rw (toZ-ofZ (s (p l) .fits .f))
           (step l _ _ (c .between .result) (c .between .ok) (ahead l (j l) (c .before .before .between-arg .given) (omega arith))
-          (ahead l (j l + 1) (c .before .between-arg2 .given) (omega arith) ∙ sym (near-is (t₀ l) (j l) 2 (j l + 1) 1 (omega arith) (omega arith)))
+          (ahead l (j l + 1) (c .before .between-arg2 .given) (omega arith) ∙ sym (near-is (t₀ (p l)) (j l) 2 (j l + 1) 1 (omega arith) (omega arith)))
           (c .between .ensures)),
     )
 
@@ -121,13 +134,12 @@ between-requires-2 c κs =
     let l = c .before .before in
     rw (
       ahead l (j l) (c .between-arg3 .given) (omega arith),
-      read-back w32 (getD (t₀ l) 0 (pos 0)) (l .before .first .given),
-      toZ-ofZ (s l .fits .f),
+      read-back w32 (getD (t₀ (p l)) 0 (pos 0)) (l .before .first .given),
     )
-    (s l .pre .1 (j l) (omega arith), s l .pre .1 0 (omega arith), s l .pre .0 .1, s l .pre .0 .2)
+    (s (p l) .pre .1 (j l) (omega arith), s (p l) .pre .1 0 (omega arith), p l .two-weights .ensures .1)
 
-mul-t22 : tie.Need-mul-t22 Inv-loop μ-loop
-mul-t22 c = omega arith
+mul-t23 : tie.Need-mul-t23 Inv-loop μ-loop
+mul-t23 c = omega arith
 
 slice-set-from-line-2 : tie.Need-slice-set-from-line-2 Inv-loop μ-loop
 slice-set-from-line-2 c = omega arith
@@ -138,9 +150,9 @@ same-length c = simp length-set (omega arith)
 returns : tie.Need-returns Inv-loop μ-loop
 returns c =
     let l = c .before .before .before in
-    weighed-end Linear (s l .args .f) (t₀ l) _ (j l + 1)
+    weighed-end Linear (s (p l) .args .f) (t₀ (p l)) _ (j l + 1)
     (step l _ _ (c .between2 .result) (c .between2 .ok) (ahead l (j l) (c .before .between-arg3 .given) (omega arith))
-    (read-back w32 (getD (t₀ l) 0 (pos 0)) (l .before .first .given) ∙ sym (near-is (t₀ l) (j l) 2 0 2 (omega arith) (omega arith)))
+    (read-back w32 (getD (t₀ (p l)) 0 (pos 0)) (l .before .first .given) ∙ sym (near-is (t₀ (p l)) (j l) 2 0 2 (omega arith) (omega arith)))
     (c .between2 .ensures))
     (omega arith)
 
@@ -150,6 +162,7 @@ weigh-linear-spec =
     (tie.spec
     Inv-loop
     μ-loop
+    two-weights-requires
     slice-copy-out-first
     loop-holds
     add-loop
@@ -159,7 +172,7 @@ weigh-linear-spec =
     mul-between-2
     slice-copy-out-between-2
     between-requires
-    mul-t17
+    mul-t18
     slice-set-from-line
     add-j
     loop-less
@@ -167,7 +180,7 @@ weigh-linear-spec =
     mul-between-3
     slice-copy-out-between-3
     between-requires-2
-    mul-t22
+    mul-t23
     slice-set-from-line-2
     same-length
     returns)

@@ -37,7 +37,7 @@ mul-samples-2 : tie.Need-mul-samples-2 Inv-loop μ-loop
 mul-samples-2 c = omega (arith, inside c)
 
 shared-slice-copy-out-samples : tie.Need-shared-slice-copy-out-samples Inv-loop μ-loop
-shared-slice-copy-out-samples c = inside c
+shared-slice-copy-out-samples c = omega (arith, inside c)
 
 mul-t13 : tie.Need-mul-t13 Inv-loop μ-loop
 mul-t13 c = omega arith
