@@ -97,7 +97,7 @@ pub struct SummaryAnswer {
 }
 
 mod linked {
-    use super::{Answer, Change, ReadingAnswer, Setting, Step, SummaryAnswer};
+    use super::{Answer, Change, LineAnswer, ReadingAnswer, Setting, Step, SummaryAnswer};
 
     #[rustfmt::skip]
     extern "C" {
