@@ -2,14 +2,12 @@
 -- case. Assumes nothing.
 use Prim.Native.Nat.{ℕ}
 use mathlib.Core.Path.{_≡_}
-use mathlib.Core.Bool.{cond}
 use lib.Ieee.{Float}
 use Rattle.refusals.specs.declared.Verdict.{Verdict}
 use Rattle.refusals.specs.Judging as verdict
 use Rattle.pictures.specs.declared.Outcome.{Outcome}
 use Rattle.pictures.specs.Answer as straightened
 use Rattle.lines.specs.declared.LineOutcome.{LineOutcome}
-use Rattle.lines.specs.declared.LineOutcome.the-variants.{Moved, Refused}
 use Rattle.lines.specs.Answer as moved
 use Rattle.steps.specs.declared.StepSine.{StepSine}
 use Rattle.steps.specs.declared.Levelled.{Levelled}
@@ -34,13 +32,8 @@ ofVerdict v = record { number = verdict.numberOf v; row = verdict.rowOf v; colum
 abbrev pub ofOutcome : Outcome → Answer
 ofOutcome o = record { number = straightened.numberOf o; row = straightened.rowOf o; column = straightened.columnOf o; count = straightened.countOf o }
 
--- a line counts 1 where it was interpolated
-abbrev pub lineCount : LineOutcome → ℕ
-lineCount (Moved interpolated) = cond interpolated 1 0
-lineCount (Refused number row column) = 0
-
 abbrev pub ofLine : LineOutcome → Answer
-ofLine o = record { number = moved.numberOf o; row = moved.rowOf o; column = moved.columnOf o; count = lineCount o }
+ofLine o = record { number = moved.numberOf o; row = moved.rowOf o; column = moved.columnOf o; count = moved.countOf o }
 
 abbrev pub ofSine : StepSine → Step
 ofSine s = record { number = sineNumber s; value = sineValue s }

@@ -8,7 +8,8 @@ ghost use lib.IntN.{pos, natAbs};
 ghost use Rattle.kernels.specs.Kernel.{kernelOf, evaluate};
 ghost use Rattle.kernels.specs.Four.{fourOf, fourWeights, weightedSum, Modest, Weighable};
 
-// Each kernel's rows: for each of the four source places the numbers a, b, c, e of its weight.
+// Each kernel's rows: for each of the four source places the numbers a, b, c, e of its weight. They stand apart so that the compiler folds
+// a kernel's weights; one array of all three would be copied for every line.
 const LINEAR: [[i64; 4]; 4] = [[0, 0, 0, 0], [1, -1, 0, 0], [0, 1, 0, 0], [0, 0, 0, 0]];
 
 const KEYS: [[i64; 4]; 4] = [[0, -1, 2, -1], [2, 0, -5, 3], [0, 1, 4, -3], [0, 0, -1, 1]];
