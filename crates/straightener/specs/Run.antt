@@ -1,16 +1,24 @@
 -- What a turn and all turns come to. What `read` puts into the block, and what `write` does with the bytes that it is handed, no contract
 -- can say. Assumes nothing.
-use Prim.Native.Nat.{ℕ}
+use Prim.Native.Nat.{ℕ, _<_, _≤_}
 use mathlib.Core.Path.{_≡_}
 use mathlib.Core.Bool.{Bool, true, false}
 use mathlib.Core.List.{List, []}
 use lib.ListN.{take}
 use Rattle.stream.specs.Output.{rest, lastAnswer}
 use Rattle.stream.specs.Steps.{Read, Last}
+use Rattle.straightener.specs.declared.Input.{Input}
+use Rattle.straightener.specs.declared.Input.the-variants.{Bytes, Nothing, Failed}
 use Rattle.straightener.specs.declared.How.{How}
 use Rattle.straightener.specs.declared.How.the-variants.{More, Ended, ReadFailed, WriteFailed}
 use Rattle.straightener.specs.declared.Turn.{Turn}
 use Rattle.straightener.specs.declared.Turns.{Turns}
+
+-- a block that was read has some bytes
+abbrev pub Some : Input → Type 0
+Some (Bytes n) = (0 < n) × (n ≤ 65536)
+Some Nothing = Unit
+Some Failed = Unit
 
 -- a turn that would have gone as `how` had all its bytes been taken
 abbrev pub toldOf : Bool → How → How
@@ -24,10 +32,11 @@ isMore Ended = false
 isMore ReadFailed = false
 isMore WriteFailed = false
 
--- One turn, from the carry and the answers' room as they were. Where it goes on, the bytes read are read on from the line that was held, and
--- the bytes handed to `write` are the answers to the lines that ended in them. Where the input has ended, they are the answer to a last line
+-- One turn, from the carry and the answers' room as they were. Where it goes on, some bytes were read, on from the line that was held, and the
+-- bytes handed to `write` are the answers to the lines that ended in them. Where the input has ended, they are the answer to a last line
 -- that lacks its line feed. Bytes that were not all taken are told
 pub record TurnDone (block carry carry′ : List ℕ) (used : ℕ) (out out′ : List ℕ) (r : Turn) : Type 0 where
+  pub some : r .how ≡ More → 0 < r .read
   pub more : r .how ≡ More → Read (take (r .read) block) carry carry′ used (r .used) out out′ (r .handed .bytes)
   pub ended : r .how ≡ Ended → Last (take used carry) out out′ (r .handed .bytes)
   pub told : r .handed .all ≡ false → r .how ≡ WriteFailed

@@ -4,10 +4,10 @@
 use libc::STDIN_FILENO;
 use libc::STDOUT_FILENO;
 ghost use mathlib.Core.Path.{_≡_};
-ghost use Prim.Native.Nat.{_≤_};
+ghost use Prim.Native.Nat.{_<_, _≤_};
 ghost use mathlib.Core.Bool.{true};
 ghost use lib.ListN.{length, take};
-ghost use Rattle.straightener.specs.Run.{isMore, toldOf, TurnDone, Closed, AllDone};
+ghost use Rattle.straightener.specs.Run.{Some, isMore, toldOf, TurnDone, Closed, AllDone};
 
 // What reading a block came to: so many bytes, the end of the input, or a failure.
 enum Input {
@@ -50,7 +50,9 @@ fn answer_room() -> [u8; 1048576] {
 }
 
 // Reads a block.
-fn take_in(block: &mut [u8; 65536]) -> Input {
+fn take_in(block: &mut [u8; 65536]) -> Input
+    ensures { λ r. ⌜ Some r ⌝ }
+{
     let got = libc::read(STDIN_FILENO, block);
     if got < 0 {
         return Input::Failed;
@@ -95,6 +97,7 @@ fn serve(
     used: usize,
     out: &mut [u8; 1048576],
 ) -> Turn
+    requires { ⌜ 0 < n ⌝ }
     ensures { λ r. ⌜ TurnDone (now (block .entry)) (now (carry .entry)) (now (carry .exit)) used (now (out .entry)) (now (out .exit)) r ⌝ }
 {
     let progress = stream::turn(block, n, carry, used, out);

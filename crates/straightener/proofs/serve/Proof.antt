@@ -18,6 +18,7 @@ returns : tie.Need-returns
 returns c =
     let how = c .told .ensures in
     record {
+      some = λ e. c .before .before .before .before .before .before .before .pre;
       more = λ e. rw (c .before .hand-over .ensures) (c .before .before .before .before .turn .ensures .reads);
       ended = λ e. absurd (more-not-ended (c .before .hand-over .result .all) (sym how ∙ e));
       told = λ e. how ∙ failure-told (c .before .hand-over .result .all) _ e;
