@@ -6,7 +6,7 @@ use mathlib.Core.Bool.{Bool, true, false}
 use mathlib.Core.List.{List, []}
 use lib.ListN.{take}
 use Rattle.stream.specs.Output.{rest, lastAnswer}
-use Rattle.stream.specs.Steps.{Read, Last}
+use Rattle.stream.specs.Steps.{Held, Read, Last}
 use Rattle.straightener.specs.declared.Input.{Input}
 use Rattle.straightener.specs.declared.Input.the-variants.{Bytes, Nothing, Failed}
 use Rattle.straightener.specs.declared.How.{How}
@@ -38,18 +38,22 @@ isMore WriteFailed = false
 pub record TurnDone (block carry carry′ : List ℕ) (used : ℕ) (out out′ : List ℕ) (r : Turn) : Type 0 where
   pub some : r .how ≡ More → 0 < r .read
   pub more : r .how ≡ More → Read (take (r .read) block) carry carry′ used (r .used) out out′ (r .handed .bytes)
-  pub ended : r .how ≡ Ended → Last (take used carry) out out′ (r .handed .bytes)
+  pub ended : r .how ≡ Ended → (carry′ ≡ carry) × (r .used ≡ used) × Last (take used carry) out out′ (r .handed .bytes)
   pub told : r .handed .all ≡ false → r .how ≡ WriteFailed
 
 -- The turn at the end of the input
-pub record Closed (kept out out′ : List ℕ) (r : Turn) : Type 0 where
+pub record Closed (carry : List ℕ) (used : ℕ) (out out′ : List ℕ) (r : Turn) : Type 0 where
   pub done : r .how ≡ More → ⊥
-  pub last : Last kept out out′ (r .handed .bytes)
+  pub held : r .used ≡ used
+  pub last : Last (take used carry) out out′ (r .handed .bytes)
   pub told : r .handed .all ≡ false → r .how ≡ WriteFailed
 
--- All turns, from an empty carry. Where the input has ended, the last bytes handed to `write` are the answer to the unfinished line of what was
--- read. They go on until then, or until a read or a write fails, or for 2⁶⁴ - 1 blocks
-pub record AllDone (out : List ℕ) (r : Turns) : Type 0 where
-  pub ended : r .last .how ≡ Ended → (input : List ℕ) × (take (r .last .handed .bytes) out ≡ lastAnswer (rest [] input))
+-- All turns, from an empty carry. Where the input has ended, the carry holds the unfinished line of what was read, and the last bytes handed to
+-- `write` are the answer to it. They go on until then, or until a read or a write fails, or for 2⁶⁴ - 1 blocks
+pub record AllDone (carry out : List ℕ) (r : Turns) : Type 0 where
+  pub ended : r .last .how ≡ Ended
+      → (input : List ℕ)
+      × Held (take (r .last .used) carry) (rest [] input)
+      × (take (r .last .handed .bytes) out ≡ lastAnswer (rest [] input))
   pub told : r .last .handed .all ≡ false → r .last .how ≡ WriteFailed
   pub more : r .last .how ≡ More → r .blocks ≡ 18446744073709551615

@@ -6,7 +6,7 @@ use libc::STDOUT_FILENO;
 ghost use mathlib.Core.Path.{_≡_};
 ghost use Prim.Native.Nat.{_<_, _≤_};
 ghost use mathlib.Core.Bool.{true};
-ghost use lib.ListN.{length, take};
+ghost use lib.ListN.{length};
 ghost use Rattle.straightener.specs.Run.{Some, isMore, toldOf, TurnDone, Closed, AllDone};
 
 // What reading a block came to: so many bytes, the end of the input, or a failure.
@@ -112,14 +112,14 @@ fn serve(
 
 // The turn at the end of the input: answers a last line that lacks its line feed.
 fn finish(carry: &[u8; 8215], used: usize, out: &mut [u8; 1048576]) -> Turn
-    ensures { λ r. ⌜ Closed (take used (now (carry .entry))) (now (out .entry)) (now (out .exit)) r ⌝ }
+    ensures { λ r. ⌜ Closed (now (carry .entry)) used (now (out .entry)) (now (out .exit)) r ⌝ }
 {
     let wrote = stream::last(carry, used, out);
     let handed = hand_over(out, wrote);
     Turn {
         how: told(handed.all, How::Ended),
         read: 0,
-        used: 0,
+        used,
         handed,
     }
 }
@@ -160,7 +160,7 @@ fn is_more(how: How) -> bool
 
 // Turn after turn, until one does not go on. The count of blocks bounds the loop alone.
 fn all_turns(block: &mut [u8; 65536], carry: &mut [u8; 8215], out: &mut [u8; 1048576]) -> Turns
-    ensures { λ r. ⌜ AllDone (now (out .exit)) r ⌝ }
+    ensures { λ r. ⌜ AllDone (now (carry .exit)) (now (out .exit)) r ⌝ }
 {
     let mut last = Turn {
         how: How::More,

@@ -1,8 +1,8 @@
 -- `straightener::all_turns` meets its contract. After each turn the carry holds the unfinished line of everything that was read, and what
 -- was handed to `write` in it are the answers to the lines that ended in its block.
-use Prim.Native.Nat.{_-_, _≤_}
+use Prim.Native.Nat.{ℕ, _-_, _≤_}
 use mathlib.Core.Bool.{false, true≢false}
-use mathlib.Core.List.{_++_}
+use mathlib.Core.List.{List, _++_}
 use mathlib.Core.Path.{_≡_, refl, sym, ap, _∙_}
 use native.Mathlib.Omega.{arith}
 use borrow.Author.Needs.{needs}
@@ -27,6 +27,10 @@ abbrev μ-loop : tie.MeasureT-loop
 nothing-requires : tie.Need-nothing-requires Inv-loop μ-loop
 nothing-requires c κs = search needs
 
+-- the bytes kept are the same where the carry and their number are
+kept : {carry carry′ line : List ℕ} {used used′ : ℕ} → carry′ ≡ carry → used′ ≡ used → take used carry ≡ line → take used′ carry′ ≡ line
+kept same held e = rw (same, held) e
+
 loop-holds : tie.Need-loop-holds Inv-loop μ-loop
 loop-holds c =
     let s = c .before in
@@ -48,7 +52,9 @@ returns c =
     let l = c .before .before .before .before .before .before .before .loop .inv .3 in
     let t = c .before .before .next-turn in
     record {
-      ended = λ e. (l .before ++ take (c .before .before .before .before .before .before .before .loop .last .read) (c .before .before .before .before .before .before .before .loop .block), stands-take (t .ensures .ended e .writes _ (l .holds)));
+      ended = λ e.
+          let (same, held, last) = t .ensures .ended e in
+          (l .before ++ take (c .before .before .before .before .before .before .before .loop .last .read) (c .before .before .before .before .before .before .before .loop .block), kept same held (l .holds), stands-take (last .writes _ (l .holds)));
       told = t .ensures .told;
       more = λ e. absurd (stops _ (sym (c .before .is-more .ensures) ∙ not-true _ (c .if1 .taken)) e);
     }

@@ -1,5 +1,5 @@
 -- `straightener::finish` meets its contract.
-use mathlib.Core.Path.{sym, _∙_}
+use mathlib.Core.Path.{refl, sym, _∙_}
 use borrow.Author.Needs.{needs}
 use Rattle.straightener.proofs.Going.{failure-told, ended-not-more}
 use Rattle.straightener.proofs.finish.Statement.{statement}
@@ -19,6 +19,7 @@ returns c =
     let how = c .told .ensures in
     record {
       done = λ e. ended-not-more (c .before .hand-over .result .all) (sym how ∙ e);
+      held = refl;
       last = rw (c .before .hand-over .ensures) (c .before .before .before .before .last .ensures);
       told = λ e. how ∙ failure-told (c .before .hand-over .result .all) _ e;
     }

@@ -1,7 +1,7 @@
 -- `straightener::next_turn` meets its contract.
 use Prim.Native.Nat.{ℕ, _<_}
 use mathlib.Core.Bool.{true≢false}
-use mathlib.Core.Path.{_≡_, sym, ap, _∙_}
+use mathlib.Core.Path.{_≡_, refl, sym, ap, _∙_}
 use native.Mathlib.Omega.{arith}
 use borrow.Author.Needs.{needs}
 use Rattle.straightener.specs.Run.{Some}
@@ -41,7 +41,7 @@ returns c = search needs
 returns-2 : tie.Need-returns-2
 returns-2 c =
     let f = c .finish .ensures in
-    record { some = λ e. absurd (f .done e); more = λ e. absurd (f .done e); ended = λ e. f .last; told = f .told }
+    record { some = λ e. absurd (f .done e); more = λ e. absurd (f .done e); ended = λ e. (refl, f .held, f .last); told = f .told }
 
 returns-3 : tie.Need-returns-3
 returns-3 c =
