@@ -33,7 +33,7 @@ isMore ReadFailed = false
 isMore WriteFailed = false
 
 -- One turn, from the carry and the answers' room as they were. Where it goes on, some bytes were read, on from the line that was held, and the
--- bytes handed to `write` are the answers to the lines that ended in them. Where the input has ended, they are the answer to a last line
+-- bytes counted as handed to `write` are the answers to the lines that ended in them. Where the input has ended, they are the answer to a last line
 -- that lacks its line feed. Bytes that were not all taken are told
 pub record TurnDone (block carry carry′ : List ℕ) (used : ℕ) (out out′ : List ℕ) (r : Turn) : Type 0 where
   pub some : r .how ≡ More → 0 < r .read
@@ -48,7 +48,7 @@ pub record Closed (carry : List ℕ) (used : ℕ) (out out′ : List ℕ) (r : T
   pub last : Last (take used carry) out out′ (r .handed .bytes)
   pub told : r .handed .all ≡ false → r .how ≡ WriteFailed
 
--- All turns, from an empty carry. Where the input has ended, the carry holds the unfinished line of what was read, and the last bytes handed to
+-- All turns, from an empty carry. Where the input has ended, the carry holds the unfinished line of what was read, and the last bytes counted as handed to
 -- `write` are the answer to it. They go on until then, or until a read or a write fails, or for 2⁶⁴ - 1 blocks
 pub record AllDone (carry out : List ℕ) (r : Turns) : Type 0 where
   pub ended : r .last .how ≡ Ended
