@@ -1,15 +1,16 @@
 -- Which bytes are digits, one at a time and all of a line. Assumes nothing.
-use Prim.Native.Nat.{ℕ, zero, suc, _+_, _%_, _/_, _*_, _≤_, _<_, max}
-use mathlib.Core.Bool.{Bool, true, false, _&&_, _||_, true≢false}
+use Prim.Native.Nat.{ℕ, zero, suc, _+_, _%_, _/_, _*_, _≤_, _<_, suc-le-suc}
+use mathlib.Core.Bool.{Bool, true, false, _&&_, _||_, true≢false, and-assoc, and-true}
 use mathlib.Core.List.{List, [], _∷_, map}
 use mathlib.Core.Path.{_≡_, refl, sym, _∙_}
-use native.Mathlib.Nat.{not-suc-le-zero, le-of-suc-le-suc}
+use native.Mathlib.Nat.{not-suc-le-zero, le-of-suc-le-suc, zero-lt-suc}
 use native.Mathlib.Numerals.{add-one}
 use native.Mathlib.Omega.{arith}
 use borrow.Author.Tests.{le-leb, lt-leb, leb-true, lt-ltb, le-ltb, eqb-true, eqb-false, eq-eqb, ne-eqb}
+use lib.Bits.{bitOr, or-add-and, and-le-l, and-le-r}
 use lib.Dec.{leb, eqb}
 use lib.ListN.{length, take, drop, getD, drop-of-length-le}
-use lib.Seq.{drop-cons}
+use lib.Seq.{drop-cons, drop-drop}
 use Rattle.digits.specs.Digit.{isDigit, allDigits, digitValue, digitOf}
 
 -- the sixteen digits, and what they stand for
@@ -65,35 +66,48 @@ digit-worth b e = by (leb 48 b) (leb b 57) refl refl e
     by true false p q h = letter h
     by false t p q h = letter h
 
--- a loop over s that has marked the bytes before i: one more, and the end
-max-zero : (a b : ℕ) → eqb (max a b) 0 ≡ (eqb a 0 && eqb b 0)
-max-zero a b = by (eqb a 0) (eqb b 0) refl refl
+-- marks joined bit by bit are 0 exactly where both are
+zero-or : (a b : ℕ) → eqb (bitOr a b) 0 ≡ (eqb a 0 && eqb b 0)
+zero-or a b = by (eqb a 0) (eqb b 0) refl refl
   where
-    by : (s t : Bool) → eqb a 0 ≡ s → eqb b 0 ≡ t → eqb (max a b) 0 ≡ (s && t)
-    by true true p q = let p′ = eqb-true a 0 p in let q′ = eqb-true b 0 q in eq-eqb (max a b) 0 (omega arith)
-    by true false p q = let q′ = eqb-false b 0 q in ne-eqb (max a b) 0 (λ (e : max a b ≡ 0). q′ (omega arith))
-    by false t p q = let p′ = eqb-false a 0 p in ne-eqb (max a b) 0 (λ (e : max a b ≡ 0). p′ (omega arith))
+    by : (s t : Bool) → eqb a 0 ≡ s → eqb b 0 ≡ t → eqb (bitOr a b) 0 ≡ (s && t)
+    by true true p q = let p′ = eqb-true a 0 p in let q′ = eqb-true b 0 q in eq-eqb (bitOr a b) 0 (omega (arith, or-add-and a b, and-le-l a b, and-le-r a b))
+    by true false p q = let q′ = eqb-false b 0 q in ne-eqb (bitOr a b) 0 (λ (e : bitOr a b ≡ 0). q′ (omega (arith, or-add-and a b, and-le-l a b, and-le-r a b)))
+    by false t p q = let p′ = eqb-false a 0 p in ne-eqb (bitOr a b) 0 (λ (e : bitOr a b ≡ 0). p′ (omega (arith, or-add-and a b, and-le-l a b, and-le-r a b)))
 
+-- all of a line by its parts
+pub all-split : (n : ℕ) (s : List ℕ) → (allDigits (take n s) && allDigits (drop n s)) ≡ allDigits s
+unfolding allDigits
+all-split zero s = refl
+all-split (suc n) [] = refl
+all-split (suc n) (b ∷ bs) = and-assoc (isDigit b) _ _ ∙ rw (all-split n bs) refl
+
+-- a loop over s that leaves at the first byte that is none
+all-first : (s : List ℕ) (i : ℕ) → i < length s → allDigits (drop i s) ≡ (isDigit (getD s i 0) && allDigits (drop (suc i) s))
+unfolding allDigits
+all-first s i h = rw (drop-cons s i 0 h) refl
+
+pub all-left : (s : List ℕ) (i : ℕ) → i < length s → allDigits (drop i s) ≡ allDigits s → isDigit (getD s i 0) ≡ false → false ≡ allDigits s
+all-left s i h e d = rw d at (sym (all-first s i h) ∙ e)
+
+pub all-on : (s : List ℕ) (i : ℕ) → i < length s → allDigits (drop i s) ≡ allDigits s → isDigit (getD s i 0) ≡ true → allDigits (drop (i + 1) s) ≡ allDigits s
+all-on s i h e d = rw add-one (rw d at (sym (all-first s i h) ∙ e))
+
+pub all-through : (s : List ℕ) (i : ℕ) → length s ≤ i → allDigits (drop i s) ≡ allDigits s → true ≡ allDigits s
+unfolding allDigits
+all-through s i h e = rw (drop-of-length-le s h) at e
+
+-- a loop over s that has marked the words before i: one more, and the end
 pub all-none : (s : List ℕ) → (eqb 0 0 && allDigits (drop 0 s)) ≡ allDigits s
 all-none s = refl
 
-pub all-more : (s : List ℕ) (i mark own : ℕ) → i < length s → (eqb mark 0 && allDigits (drop i s)) ≡ allDigits s
-    → eqb own 0 ≡ isDigit (getD s i 0) → (eqb (max mark own) 0 && allDigits (drop (i + 1) s)) ≡ allDigits s
-unfolding allDigits
-all-more s i mark own h e k =
-    rw (add-one, max-zero mark own, k) (assoc (eqb mark 0) _ _ ∙ rw (drop-cons s i 0 h) at e)
-  where
-    assoc : (a b c : Bool) → ((a && b) && c) ≡ (a && (b && c))
-    assoc true b c = refl
-    assoc false b c = refl
+pub all-more : (s : List ℕ) (i mark own : ℕ) → (eqb mark 0 && allDigits (drop i s)) ≡ allDigits s
+    → eqb own 0 ≡ allDigits (take 8 (drop i s)) → (eqb (bitOr mark own) 0 && allDigits (drop (i + 8) s)) ≡ allDigits s
+all-more s i mark own e k = rw (zero-or mark own, k) (and-assoc (eqb mark 0) _ _ ∙ rw (← drop-drop 8 i s, all-split 8 (drop i s)) e)
 
 pub all-end : (s : List ℕ) (i mark : ℕ) → length s ≤ i → (eqb mark 0 && allDigits (drop i s)) ≡ allDigits s → eqb mark 0 ≡ allDigits s
 unfolding allDigits
-all-end s i mark h e = unit (eqb mark 0) ∙ (rw (drop-of-length-le s h) at e)
-  where
-    unit : (a : Bool) → a ≡ (a && true)
-    unit true = refl
-    unit false = refl
+all-end s i mark h e = sym (and-true (eqb mark 0)) ∙ (rw (drop-of-length-le s h) at e)
 
 -- each byte of a line of digits is one, and so is each byte of a part
 head-tail : (b : ℕ) (bs : List ℕ) → allDigits (b ∷ bs) ≡ true → (isDigit b ≡ true) × (allDigits bs ≡ true)
@@ -108,6 +122,11 @@ pub all-at : (s : List ℕ) (i : ℕ) → allDigits s ≡ true → i < length s 
 all-at [] i e h = absurd (not-suc-le-zero h)
 all-at (b ∷ bs) zero e h = head-tail b bs e .0
 all-at (b ∷ bs) (suc i) e h = all-at bs i (head-tail b bs e .1) (le-of-suc-le-suc h)
+
+pub all-each : (s : List ℕ) → ((i : ℕ) → i < length s → isDigit (getD s i 0) ≡ true) → allDigits s ≡ true
+unfolding allDigits
+all-each [] e = refl
+all-each (b ∷ bs) e = rw (e 0 (zero-lt-suc (length bs)), all-each bs (λ i h. e (suc i) (suc-le-suc h))) refl
 
 all-drop : (a : ℕ) (s : List ℕ) → allDigits s ≡ true → allDigits (drop a s) ≡ true
 all-drop zero s e = e

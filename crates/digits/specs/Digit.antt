@@ -5,6 +5,7 @@ use mathlib.Core.Bool.{Bool, true, _&&_, _||_, cond}
 use mathlib.Core.List.{List, [], _∷_, _++_, map}
 use lib.Dec.{leb, ltb}
 use lib.IntN.{ℤ, pos, natAbs, _+ℤ_, _-ℤ_}
+use Rattle.words.specs.Word.{bytesOf}
 
 -- 0 to 9 are the bytes 48 to 57, A to F the bytes 65 to 70
 unfoldable pub isDigit : ℕ → Bool
@@ -14,6 +15,10 @@ isDigit b = (leb 48 b && leb b 57) || (leb 65 b && leb b 70)
 unfoldable pub allDigits : List ℕ → Bool
 allDigits [] = true
 allDigits (b ∷ bs) = isDigit b && allDigits bs
+
+-- a word passes exactly when each of its eight bytes is 0 to 9 or A to F
+unfoldable pub passes : ℕ → Bool
+passes w = allDigits (bytesOf 8 w)
 
 -- what a digit stands for
 unfoldable pub digitValue : ℕ → ℕ

@@ -1,56 +1,71 @@
 -- `stream::line_length` meets its contract.
-use Prim.Native.Nat.{_+_, _-_, _≤_}
-use mathlib.Core.Path.{_≡_, sym, refl}
-use native.Mathlib.Nat.{zero-add}
+use Prim.Native.Nat.{_+_, _-_, _/_, _*_, _≤_, _<_}
+use mathlib.Core.Path.{_≡_, sym, ap, _∙_}
 use native.Mathlib.Omega.{arith}
-use borrow.Author.Tests.{eq-eqb, ne-eqb}
-use lib.ListN.{length, drop, getD}
-use Rattle.stream.specs.Output.{inLine, lineLength}
-use Rattle.stream.proofs.Output.{search-more, search-found, search-end}
+use borrow.Author.Needs.{needs}
+use lib.ListN.{length, take, drop, length-take, length-drop}
+use lib.Seq.{length-take-le, take-all}
+use Rattle.stream.specs.Output.{lineLength}
+use Rattle.stream.proofs.Output.{length-within, length-found, length-beyond}
 use Rattle.stream.proofs.line_length.Statement.{statement}
 use Rattle.stream.proofs.line_length.Tie as tie
 
-abbrev Inv-loop : tie.InvT-loop
-Inv-loop s i₀ i = (i ≤ length s) × (lineLength s ≡ i + lineLength (drop i s))
+mul-n : tie.Need-mul-n
+mul-n c = search needs
 
-abbrev μ-loop : tie.MeasureT-loop
-μ-loop s i₀ i = length s - i
+slice-aggregate-words-length : tie.Need-slice-aggregate-words-length
+slice-aggregate-words-length c = sym (length-take-le (length (c .before .before .args .s .now) / 8 * 8) (c .before .before .args .s .now) (omega arith))
 
-loop-holds : tie.Need-loop-holds Inv-loop μ-loop
-loop-holds c = (omega arith, sym (zero-add _))
+words-length-requires : tie.Need-words-length-requires
+words-length-requires c κs = simp length-take (omega arith)
 
-shared-slice-read-if1 : tie.Need-shared-slice-read-if1 Inv-loop μ-loop
-shared-slice-read-if1 c = omega arith
-
-returns : tie.Need-returns Inv-loop μ-loop
+returns : tie.Need-returns
 returns c =
-    let l = c .before .before .before in
-    search-found (l .before .args .s .now) (l .loop .i) (omega arith) (unfold inLine in rw (eq-eqb (getD (l .before .args .s .now) (l .loop .i) 0) 10 (c .if1 .taken)) refl) (l .loop .inv .1)
+    let s = c .before .before .before .before .args .s .now in
+    let e = c .before .words-length .ensures in
+    e ∙ length-found (length s / 8 * 8) s (omega arith)
 
-add-i : tie.Need-add-i Inv-loop μ-loop
-add-i c = omega arith
+sub-bytes-length : tie.Need-sub-bytes-length
+sub-bytes-length c = search needs
 
-loop-less : tie.Need-loop-less Inv-loop μ-loop
-loop-less c = omega arith
+part-bytes-length-start : tie.Need-part-bytes-length-start
+part-bytes-length-start c = search needs
 
-loop-again : tie.Need-loop-again Inv-loop μ-loop
-loop-again c =
-    let l = c .before .before .before in
-    (omega arith, search-more (l .before .args .s .now) (l .loop .i) (omega arith) (unfold inLine in rw (ne-eqb (getD (l .before .args .s .now) (l .loop .i) 0) 10 (c .if1 .left)) refl) (l .loop .inv .1))
+part-bytes-length-end : tie.Need-part-bytes-length-end
+part-bytes-length-end c = search needs
 
-returns-2 : tie.Need-returns-2 Inv-loop μ-loop
-returns-2 c = search-end (c .before .before .args .s .now) (c .before .loop .i) (omega arith) (c .before .loop .inv .1)
+bytes-length-requires : tie.Need-bytes-length-requires
+bytes-length-requires c κs = search needs
+
+add-result : tie.Need-add-result
+add-result c =
+    let s = c .before .before .before .before .before .before .args .s .now in
+    let n = length s / 8 * 8 in
+    let e = c .bytes-length .ensures in
+    let h = length-within (take (length s - n) (drop n s)) in
+    let k : length (take (length s - n) (drop n s)) ≤ length s - n = simp length-take (omega arith) in
+    omega arith
+
+returns-2 : tie.Need-returns-2
+returns-2 c =
+    let s = c .before .before .before .before .before .before .args .s .now in
+    let n = length s / 8 * 8 in
+    let e = c .before .before .before .words-length .ensures in
+    let f : c .bytes-length .result ≡ lineLength (drop n s) = c .bytes-length .ensures ∙ ap lineLength (take-all (length s - n) (drop n s) (simp length-drop (omega arith))) in
+    let g = length-beyond n s (omega arith) in
+    omega arith
 
 pub line-length-spec : {M : Type 1} → statement M
 line-length-spec =
     tie.close
     (tie.spec
-    Inv-loop
-    μ-loop
-    loop-holds
-    shared-slice-read-if1
+    mul-n
+    slice-aggregate-words-length
+    words-length-requires
     returns
-    add-i
-    loop-less
-    loop-again
+    sub-bytes-length
+    part-bytes-length-start
+    part-bytes-length-end
+    bytes-length-requires
+    add-result
     returns-2)

@@ -1,0 +1,81 @@
+-- `stream::words_length` meets its contract.
+use Prim.Native.Nat.{_+_, _-_, _%_, _≤_}
+use mathlib.Core.Path.{_≡_, refl, sym, ap, _∙_}
+use native.Mathlib.Nat.{zero-add, add-sub-cancel-left}
+use native.Mathlib.Omega.{arith}
+use borrow.Author.Needs.{needs}
+use lib.ListN.{length, take, drop, length-take, length-drop}
+use Rattle.stream.specs.Output.{lineLength}
+use Rattle.stream.proofs.Output.{word-more, word-found, search-end}
+use Rattle.stream.proofs.words_length.Statement.{statement}
+use Rattle.stream.proofs.words_length.Tie as tie
+
+abbrev Inv-loop : tie.InvT-loop
+Inv-loop s i₀ i = (i ≤ length s) × (i % 8 ≡ 0) × (lineLength s ≡ i + lineLength (drop i s))
+
+abbrev μ-loop : tie.MeasureT-loop
+μ-loop s i₀ i = length s - i
+
+loop-holds : tie.Need-loop-holds Inv-loop μ-loop
+loop-holds c = (omega arith, omega arith, sym (zero-add _))
+
+add-e : tie.Need-add-e Inv-loop μ-loop
+add-e c = omega arith
+
+sub-load : tie.Need-sub-load Inv-loop μ-loop
+sub-load c = omega arith
+
+part-load-start : tie.Need-part-load-start Inv-loop μ-loop
+part-load-start c = search needs
+
+part-load-end : tie.Need-part-load-end Inv-loop μ-loop
+part-load-end c = search needs
+
+load-requires : tie.Need-load-requires Inv-loop μ-loop
+load-requires c κs = simp (length-take, length-drop) (omega arith)
+
+word-length-requires : tie.Need-word-length-requires Inv-loop μ-loop
+word-length-requires c κs = search needs
+
+add-result : tie.Need-add-result Inv-loop μ-loop
+add-result c = omega arith
+
+returns : tie.Need-returns Inv-loop μ-loop
+returns c =
+    let l = c .before .before .before .before .before in
+    let s = l .before .before .args .s .now in
+    word-found s (l .loop .i) (c .before .word-length .result) (c .before .word-length .ensures ∙ ap lineLength (c .before .before .load .ensures ∙ rw (add-sub-cancel-left (l .loop .i) 8) refl)) (c .if1 .taken) (l .loop .inv .2)
+
+loop-less : tie.Need-loop-less Inv-loop μ-loop
+loop-less c = omega arith
+
+loop-again : tie.Need-loop-again Inv-loop μ-loop
+loop-again c =
+    let l = c .before .before .before .before .before in
+    let s = l .before .before .args .s .now in (
+      omega arith,
+      omega arith,
+      word-more s (l .loop .i) (c .before .word-length .result) (c .before .word-length .ensures ∙ ap lineLength (c .before .before .load .ensures ∙ rw (add-sub-cancel-left (l .loop .i) 8) refl)) (c .if1 .left) (l .loop .inv .2),
+    )
+
+returns-2 : tie.Need-returns-2 Inv-loop μ-loop
+returns-2 c = search-end (c .before .before .before .args .s .now) (c .before .loop .i) (omega arith) (c .before .loop .inv .2)
+
+pub words-length-spec : {M : Type 1} → statement M
+words-length-spec =
+    tie.close
+    (tie.spec
+    Inv-loop
+    μ-loop
+    loop-holds
+    add-e
+    sub-load
+    part-load-start
+    part-load-end
+    load-requires
+    word-length-requires
+    add-result
+    returns
+    loop-less
+    loop-again
+    returns-2)

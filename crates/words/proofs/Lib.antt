@@ -1,0 +1,7 @@
+-- Laws of bytes held in a word.
+--     Held    loading bytes into a word and taking them out again are inverse; a word's bytes by place
+--     Lanes   operations that work on a word's bytes apart
+--     Marks   bytes marked in a word by a test
+pub mod Held
+pub mod Lanes
+pub mod Marks

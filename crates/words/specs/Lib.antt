@@ -1,0 +1,2 @@
+-- Bytes held in a word.
+pub mod Word
