@@ -97,6 +97,34 @@ fn hostile_bytes() {
     assert!(printed(vec![input.clone()]) == second::answer_input(&input));
 }
 
+/// A line of `length` bytes, none of them a digit, with one other byte at a place of it.
+fn line_with(byte: u8, place: usize, length: usize) -> Vec<u8> {
+    [&vec![b'G'; place], &[byte][..], &vec![b'G'; length - 1 - place]].concat()
+}
+
+/// Each byte in turn stands at each place of three words: a line feed there ends the line, and no other byte does.
+#[test]
+fn a_line_feed_alone_ends_a_line() {
+    for byte in 0..=255 {
+        let input: Vec<u8> =
+            (0..24).flat_map(|place| [line_with(byte, place, 24), vec![b'\n']].concat()).collect();
+        let answers = if byte == b'\n' { 48 } else { 24 };
+        assert!(printed(vec![input]) == b"0900000000\n".repeat(answers), "byte {byte}");
+    }
+}
+
+/// The same for the last byte of a word and the seven behind it, where the input ends.
+#[test]
+fn a_line_feed_behind_the_last_word() {
+    for place in 15..23 {
+        for byte in [9, 10, 11, 13, 138] {
+            let answers = if byte == b'\n' && place < 22 { 2 } else { 1 };
+            let output = printed(vec![line_with(byte, place, 23)]);
+            assert!(output == b"0900000000\n".repeat(answers), "byte {byte} at {place}");
+        }
+    }
+}
+
 /// A well-formed line of 8 by 6 greys, without its line feed.
 fn small_line(numbers: &mut Numbers) -> Vec<u8> {
     let greys: String = (0..48).map(|_| format!("{:02X}", numbers.below(256))).collect();

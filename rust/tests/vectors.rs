@@ -19,6 +19,7 @@ for_both_implementations!(
     reading_calls,
     greys_and_floats,
     line_program,
+    words,
 );
 
 /// The setting of five words: kernel, cx, cy, A, B.
@@ -215,5 +216,19 @@ fn line_program(implementation: &dyn Implementation) {
 fn line_program_of_the_second_implementation() {
     for case in cases() {
         assert!(second::answer_input(&case.input) == case.output, "the output of {} differs", case.name);
+    }
+}
+
+/// A line whose greys hold the word is refused with 9 exactly where the word does not pass, at whichever of eight places in a row it begins.
+fn words(implementation: &dyn Implementation) {
+    for (input, answer) in vectors("words.txt", 2_548) {
+        let word = u64::from_str_radix(&input[0], 16).expect("16 hexadecimal digits").to_be_bytes();
+        let number: &[u8] = if answer[0] == "1" { b"00" } else { b"09" };
+        for before in 2..10 {
+            let after = before % 2;
+            let head = format!("000000{:04X}000100000000", (before + 8 + after) / 2);
+            let line = [head.as_bytes(), &vec![b'7'; before], &word, &vec![b'7'; after]].concat();
+            assert_eq!(&implementation.answer_line(&line)[..2], number, "{} at {}", input[0], 22 + before);
+        }
     }
 }

@@ -11,8 +11,8 @@ ghost use Rattle.words.specs.Word.{bytesOf};
 ghost use Rattle.stream.specs.Output.{lineLength};
 ghost use Rattle.stream.specs.Steps.{cut, Stands, Finished, Read, Stepped, Turned, Last};
 
-// The length of the line that a word's bytes begin with: 8 where no line ends in them. Bit 7 of 127 and the low seven bits of a byte that
-// is not 0 is set, so what is left of bits 7 stands in the line feeds.
+// The length of the line that a word's bytes begin with, 8 where no line ends in them. A byte of x is 0 for a line feed alone: for any other,
+// bit 7 is set in it or in 127 more than its low seven bits, which carries into no other byte.
 fn word_length(w: u64) -> usize
     ensures { λ r. ⌜ r ≡ lineLength (bytesOf 8 w) ⌝ }
 {

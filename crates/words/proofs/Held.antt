@@ -8,6 +8,7 @@ use lib.Arith.{digits-div, digits-mod}
 use lib.ListN.{length, drop, getD, drop-of-length-le}
 use Rattle.words.specs.Word.{bytesOf, wordOf}
 
+-- ---- inverse to each other
 -- the bytes of a word are those that it was made from
 pub bytes-of-word : (s : List ℕ) → ((i : ℕ) → getD s i 0 < 256) → bytesOf (length s) (wordOf s) ≡ s
 unfolding wordOf bytesOf
@@ -22,6 +23,11 @@ word-of-bytes (suc n) w h =
     let e : wordOf (bytesOf n (w / 256)) ≡ w / 256 = word-of-bytes n (w / 256) (div-lt-iff-lt-mul (omega arith) .1 (rw (pow-suc 256 n) at h)) in
     omega arith
 
+-- so eight bytes are those of one 64-bit word alone
+pub loaded-word : (w : ℕ) (s : List ℕ) → w < 2 ^ 64 → bytesOf 8 w ≡ s → w ≡ wordOf s
+loaded-word w s h e = sym (word-of-bytes 8 w h) ∙ ap wordOf e
+
+-- ---- by place
 pub bytes-length : (n w : ℕ) → length (bytesOf n w) ≡ n
 unfolding bytesOf
 bytes-length zero w = refl
@@ -37,7 +43,7 @@ byte-at zero w i h = absurd (not-suc-le-zero h)
 byte-at (suc n) w zero h = ap (λ (x : ℕ). x % 256) (sym (div-one w))
 byte-at (suc n) w (suc i) h = byte-at n (w / 256) i (le-of-suc-le-suc h) ∙ above w i
 
--- eight bytes, put together by halves as `load` does
+-- ---- eight bytes put together by halves, as `load` does
 word-from : (s : List ℕ) (i : ℕ) → wordOf (drop i s) ≡ wordOf (drop (suc i) s) * 256 + getD s i 0
 unfolding wordOf
 word-from [] zero = refl

@@ -26,8 +26,13 @@ const KERNELS: [(&str, f64); 3] = [("linear", 0.15), ("Keys", 0.25), ("cubic spl
 /// Sizes of pictures, and how many calls are timed at once so that the clock resolves them.
 const SIZES: [(usize, usize, u32); 3] = [(1_024, 1_024, 1), (640, 480, 3), (64, 64, 200)];
 
-/// Sizes of the pictures in the line program's input, and the number of lines.
-const INPUTS: [(usize, usize, usize); 2] = [(64, 64, 600), (8, 8, 20_000)];
+/// Inputs of the line program: the size of the pictures, the number of lines, and whether each is refused at its last
+/// digit.
+const INPUTS: [(usize, usize, usize, bool); 3] =
+    [(64, 64, 600, false), (8, 8, 20_000, false), (64, 64, 6_000, true)];
+
+/// Calls for one line that are timed at once.
+const LINE_CALLS: u32 = 2_000;
 
 /// Seconds of one call in one round: the library, the second implementation, three copies.
 type Times = [f64; 3];
@@ -166,14 +171,22 @@ fn median(mut figures: Vec<f64>) -> f64 {
     figures[figures.len() / 2]
 }
 
-/// Writes an input of the line program, its kernels by turns, to a file.
-fn write_lines((width, height, count): (usize, usize, usize), path: &Path) -> io::Result<()> {
+/// A line of the line program, without its line feed; a refused one has a last digit that is none.
+fn line((width, height, refused): (usize, usize, bool), kernel: usize) -> String {
     let greys: String = noise(width * height).iter().map(|grey| format!("{grey:02X}")).collect();
-    let mut text = String::new();
-    for i in 0..count {
-        let (kernel, cx, cy) = (i % 3, width / 2, height / 2);
-        text += &format!("{kernel:02X}{STEP:04X}{width:04X}{height:04X}{cx:04X}{cy:04X}{greys}\n");
+    let (cx, cy) = (width / 2, height / 2);
+    let mut line = format!("{kernel:02X}{STEP:04X}{width:04X}{height:04X}{cx:04X}{cy:04X}{greys}");
+    if refused {
+        line.pop();
+        line.push('G');
     }
+    line
+}
+
+/// Writes an input of the line program, its kernels by turns, to a file.
+fn write_lines((width, height, count, refused): (usize, usize, usize, bool), path: &Path) -> io::Result<()> {
+    let lines = [0, 1, 2].map(|kernel| line((width, height, refused), kernel) + "\n");
+    let text: String = lines.iter().map(String::as_str).cycle().take(count).collect();
     File::create(path)?.write_all(text.as_bytes())
 }
 
@@ -194,23 +207,41 @@ fn run_over(program: &Path, input: &Path) -> io::Result<(f64, u64)> {
 }
 
 /// Measures the line program against `cat` on one input, and answers the row of the table.
-fn line_program(program: &Path, input: (usize, usize, usize), rounds: usize) -> io::Result<String> {
+fn line_program(program: &Path, input: (usize, usize, usize, bool), rounds: usize) -> io::Result<String> {
+    let (width, height, lines, refused) = input;
     let path = std::env::temp_dir().join(format!("straightener-bench-{}.txt", std::process::id()));
     write_lines(input, &path)?;
     let (mut ours, mut cats) = (Vec::new(), Vec::new());
     for _ in 0..rounds {
         let (time, bytes) = run_over(program, &path)?;
         let (cat_time, _) = run_over(Path::new("cat"), &path)?;
-        let answer = 15 + 8 * input.0 * input.1;
-        assert_eq!(bytes, (input.2 * answer) as u64, "every line is answered with a picture");
+        let answer = if refused { 11 } else { 15 + 8 * width * height };
+        assert_eq!(bytes, (lines * answer) as u64, "every line is answered with a picture, or refused");
         ours.push(time);
         cats.push(cat_time);
     }
     std::fs::remove_file(&path)?;
-    let rate = |times: Vec<f64>| to_digits(3, input.2 as f64 / median(times));
+    let rate = |times: Vec<f64>| to_digits(3, lines as f64 / median(times));
     let (ours, cats) = (rate(ours), rate(cats));
-    let size = format!("{} by {}", input.0, input.1);
+    let size = format!("{width} by {height}{}", if refused { ", refused at the last digit" } else { "" });
     Ok(table_row(&[size, figure(3, ours), figure(3, cats), figure(2, cats / ours)]))
+}
+
+/// Seconds that a contestant takes to test the digits of a long line: those of a line that is refused at its last
+/// digit, less those of an empty line, in the median.
+fn digit_test(long: &[u8], rounds: usize, mut answer: impl FnMut(&[u8]) -> usize) -> f64 {
+    let mut time = |line: &[u8]| seconds(LINE_CALLS, || assert_eq!(black_box(answer(black_box(line))), 11));
+    median((0..rounds).map(|_| time(long) - time(b"")).collect())
+}
+
+/// Measures the test of digits by itself, and answers the row of the table: gigabytes a second.
+fn digits(rounds: usize) -> String {
+    let long = line((64, 64, true), 0).into_bytes();
+    let mut answer = vec![0; 32_783];
+    let library = digit_test(&long, rounds, |line| raw::answer_line(line, &mut answer).written);
+    let plain = digit_test(&long, rounds, |line| second::answer_line(line).len());
+    let rate = |time: f64| long.len() as f64 / 1e9 / time;
+    table_row(&[grouped(long.len() as f64), figure(2, rate(library)), figure(2, rate(plain))])
 }
 
 fn main() -> Result<(), Box<dyn Error>> {
@@ -249,5 +280,8 @@ fn main() -> Result<(), Box<dyn Error>> {
     for input in INPUTS {
         println!("{}", line_program(&program, input, rounds)?);
     }
+    println!("\nThe test of a line's digits by itself: gigabytes a second.\n");
+    println!("{}", table_head(&["Digits", "Library", "Second implementation"]));
+    println!("{}", digits(rounds));
     Ok(())
 }

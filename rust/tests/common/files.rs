@@ -104,6 +104,6 @@ pub fn cases() -> Vec<Case> {
             _ => panic!("unknown mark {mark}"),
         }
     }
-    assert_eq!(cases.len(), 45, "line_program.txt is not whole");
+    assert_eq!(cases.len(), 46, "line_program.txt is not whole");
     cases
 }

@@ -1,10 +1,10 @@
 -- `stream::words_length` meets its contract.
 use Prim.Native.Nat.{_+_, _-_, _%_, _≤_}
-use mathlib.Core.Path.{_≡_, refl, sym, ap, _∙_}
-use native.Mathlib.Nat.{zero-add, add-sub-cancel-left}
+use mathlib.Core.Path.{_≡_, sym}
+use native.Mathlib.Nat.{zero-add}
 use native.Mathlib.Omega.{arith}
 use borrow.Author.Needs.{needs}
-use lib.ListN.{length, take, drop, length-take, length-drop}
+use lib.ListN.{length, drop, length-take, length-drop}
 use Rattle.stream.specs.Output.{lineLength}
 use Rattle.stream.proofs.Output.{word-more, word-found, search-end}
 use Rattle.stream.proofs.words_length.Statement.{statement}
@@ -43,19 +43,17 @@ add-result c = omega arith
 returns : tie.Need-returns Inv-loop μ-loop
 returns c =
     let l = c .before .before .before .before .before in
-    let s = l .before .before .args .s .now in
-    word-found s (l .loop .i) (c .before .word-length .result) (c .before .word-length .ensures ∙ ap lineLength (c .before .before .load .ensures ∙ rw (add-sub-cancel-left (l .loop .i) 8) refl)) (c .if1 .taken) (l .loop .inv .2)
+    word-found (l .before .before .args .s .now) (l .loop .i) (c .before .word-length .result) (c .before .before .load .ensures) (c .before .word-length .ensures) (omega arith) (l .loop .inv .2)
 
 loop-less : tie.Need-loop-less Inv-loop μ-loop
 loop-less c = omega arith
 
 loop-again : tie.Need-loop-again Inv-loop μ-loop
 loop-again c =
-    let l = c .before .before .before .before .before in
-    let s = l .before .before .args .s .now in (
+    let l = c .before .before .before .before .before in (
       omega arith,
       omega arith,
-      word-more s (l .loop .i) (c .before .word-length .result) (c .before .word-length .ensures ∙ ap lineLength (c .before .before .load .ensures ∙ rw (add-sub-cancel-left (l .loop .i) 8) refl)) (c .if1 .left) (l .loop .inv .2),
+      word-more (l .before .before .args .s .now) (l .loop .i) (c .before .word-length .result) (c .before .before .load .ensures) (c .before .word-length .ensures) (omega arith) (l .loop .inv .2),
     )
 
 returns-2 : tie.Need-returns-2 Inv-loop μ-loop
