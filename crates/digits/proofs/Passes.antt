@@ -1,13 +1,11 @@
 -- A word passes exactly when each of its eight bytes is a digit: by place, and as `faults` works it out, no sum of which leaves its lane.
 -- Assumes nothing.
-use Prim.Native.Nat.{ℕ, zero, suc, _+_, _*_, _/_, _%_, _^_, _<_}
+use Prim.Native.Nat.{ℕ, suc, _+_, _/_, _%_, _^_, _<_}
 use mathlib.Core.Bool.{true, _&&_}
 use mathlib.Core.List.{List, [], _∷_}
 use mathlib.Core.Path.{_≡_, refl, sym, ap, _∙_}
-use native.Mathlib.Omega.{arith}
 use lib.Bits.{bitAnd, bitOr, bitXor, and-zero-r}
 use lib.Dec.{T, eqb, leb, leb→le, lit<}
-use lib.ListN.{length, getD}
 use Rattle.lists.specs.Tab.{tab}
 use Rattle.words.specs.Word.{bytesOf}
 use Rattle.words.proofs.Held.{bytes-length, byte-at}

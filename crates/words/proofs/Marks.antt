@@ -8,7 +8,7 @@ use native.Mathlib.Nat.{suc-add, zero-add, mul-one}
 use native.Mathlib.Omega.{arith}
 use borrow.Author.Tests.{eqb-true, eqb-false, eq-eqb, ne-eqb}
 use lib.Bits.{shifted-half, shifted-even}
-use lib.Count.{trailingZeros, under}
+use lib.Count.{trailingZeros}
 use lib.Dec.{T, eqb, eqb→eq}
 use lib.ListN.{length}
 use Rattle.lists.specs.Tab.{tab}

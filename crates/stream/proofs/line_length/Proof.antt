@@ -1,5 +1,5 @@
 -- `stream::line_length` meets its contract.
-use Prim.Native.Nat.{_+_, _-_, _/_, _*_, _≤_, _<_}
+use Prim.Native.Nat.{_-_, _/_, _*_, _≤_}
 use mathlib.Core.Path.{_≡_, sym, ap, _∙_}
 use native.Mathlib.Omega.{arith}
 use borrow.Author.Needs.{needs}
