@@ -219,7 +219,8 @@ fn line_program_of_the_second_implementation() {
     }
 }
 
-/// A line whose greys hold the word is refused with 9 exactly where the word does not pass, at whichever of eight places in a row it begins.
+/// A line whose greys hold the word is refused with 9 exactly where the word does not pass, at whichever of
+/// eight places in a row it begins.
 fn words(implementation: &dyn Implementation) {
     for (input, answer) in vectors("words.txt", 2_548) {
         let word = u64::from_str_radix(&input[0], 16).expect("16 hexadecimal digits").to_be_bytes();

@@ -26,13 +26,24 @@ const KERNELS: [(&str, f64); 3] = [("linear", 0.15), ("Keys", 0.25), ("cubic spl
 /// Sizes of pictures, and how many calls are timed at once so that the clock resolves them.
 const SIZES: [(usize, usize, u32); 3] = [(1_024, 1_024, 1), (640, 480, 3), (64, 64, 200)];
 
-/// Inputs of the line program: the size of the pictures, the number of lines, and whether each is refused at its last
-/// digit.
-const INPUTS: [(usize, usize, usize, bool); 3] =
-    [(64, 64, 600, false), (8, 8, 20_000, false), (64, 64, 6_000, true)];
+/// Inputs of the line program.
+const INPUTS: [Input; 3] = [
+    Input { width: 64, height: 64, lines: 600, refused: false },
+    Input { width: 8, height: 8, lines: 20_000, refused: false },
+    Input { width: 64, height: 64, lines: 6_000, refused: true },
+];
 
 /// Calls for one line that are timed at once.
 const LINE_CALLS: u32 = 2_000;
+
+/// What the line program is fed: lines of pictures of one size, each refused at its last digit or not at all.
+#[derive(Clone, Copy)]
+struct Input {
+    width: usize,
+    height: usize,
+    lines: usize,
+    refused: bool,
+}
 
 /// Seconds of one call in one round: the library, the second implementation, three copies.
 type Times = [f64; 3];
@@ -171,23 +182,38 @@ fn median(mut figures: Vec<f64>) -> f64 {
     figures[figures.len() / 2]
 }
 
-/// A line of the line program, without its line feed; a refused one has a last digit that is none.
-fn line((width, height, refused): (usize, usize, bool), kernel: usize) -> String {
-    let greys: String = noise(width * height).iter().map(|grey| format!("{grey:02X}")).collect();
-    let (cx, cy) = (width / 2, height / 2);
-    let mut line = format!("{kernel:02X}{STEP:04X}{width:04X}{height:04X}{cx:04X}{cy:04X}{greys}");
-    if refused {
-        line.pop();
-        line.push('G');
+impl Input {
+    /// A line of the input, without its line feed; a refused one has a last digit that is none.
+    fn line(self, kernel: usize) -> String {
+        let Input { width, height, refused, .. } = self;
+        let greys: String = noise(width * height).iter().map(|grey| format!("{grey:02X}")).collect();
+        let (cx, cy) = (width / 2, height / 2);
+        let mut line = format!("{kernel:02X}{STEP:04X}{width:04X}{height:04X}{cx:04X}{cy:04X}{greys}");
+        if refused {
+            line.pop();
+            line.push('G');
+        }
+        line
     }
-    line
-}
 
-/// Writes an input of the line program, its kernels by turns, to a file.
-fn write_lines((width, height, count, refused): (usize, usize, usize, bool), path: &Path) -> io::Result<()> {
-    let lines = [0, 1, 2].map(|kernel| line((width, height, refused), kernel) + "\n");
-    let text: String = lines.iter().map(String::as_str).cycle().take(count).collect();
-    File::create(path)?.write_all(text.as_bytes())
+    /// Writes the input, its kernels by turns, to a file.
+    fn write(self, path: &Path) -> io::Result<()> {
+        let lines = [0, 1, 2].map(|kernel| self.line(kernel) + "\n");
+        let text: String = lines.iter().map(String::as_str).cycle().take(self.lines).collect();
+        File::create(path)?.write_all(text.as_bytes())
+    }
+
+    /// Bytes of all answers.
+    fn answers(self) -> u64 {
+        let answer = if self.refused { 11 } else { 15 + 8 * self.width * self.height };
+        (self.lines * answer) as u64
+    }
+
+    /// What the table calls it.
+    fn name(self) -> String {
+        let refused = if self.refused { ", refused at the last digit" } else { "" };
+        format!("{} by {}{refused}", self.width, self.height)
+    }
 }
 
 /// Seconds that a program takes to read a file and to have all its output read, and the bytes of that.
@@ -207,24 +233,21 @@ fn run_over(program: &Path, input: &Path) -> io::Result<(f64, u64)> {
 }
 
 /// Measures the line program against `cat` on one input, and answers the row of the table.
-fn line_program(program: &Path, input: (usize, usize, usize, bool), rounds: usize) -> io::Result<String> {
-    let (width, height, lines, refused) = input;
+fn line_program(program: &Path, input: Input, rounds: usize) -> io::Result<String> {
     let path = std::env::temp_dir().join(format!("straightener-bench-{}.txt", std::process::id()));
-    write_lines(input, &path)?;
+    input.write(&path)?;
     let (mut ours, mut cats) = (Vec::new(), Vec::new());
     for _ in 0..rounds {
         let (time, bytes) = run_over(program, &path)?;
         let (cat_time, _) = run_over(Path::new("cat"), &path)?;
-        let answer = if refused { 11 } else { 15 + 8 * width * height };
-        assert_eq!(bytes, (lines * answer) as u64, "every line is answered with a picture, or refused");
+        assert_eq!(bytes, input.answers(), "every line is answered with a picture, or refused");
         ours.push(time);
         cats.push(cat_time);
     }
     std::fs::remove_file(&path)?;
-    let rate = |times: Vec<f64>| to_digits(3, lines as f64 / median(times));
+    let rate = |times: Vec<f64>| to_digits(3, input.lines as f64 / median(times));
     let (ours, cats) = (rate(ours), rate(cats));
-    let size = format!("{width} by {height}{}", if refused { ", refused at the last digit" } else { "" });
-    Ok(table_row(&[size, figure(3, ours), figure(3, cats), figure(2, cats / ours)]))
+    Ok(table_row(&[input.name(), figure(3, ours), figure(3, cats), figure(2, cats / ours)]))
 }
 
 /// Seconds that a contestant takes to test the digits of a long line: those of a line that is refused at its last
@@ -235,8 +258,8 @@ fn digit_test(long: &[u8], rounds: usize, mut answer: impl FnMut(&[u8]) -> usize
 }
 
 /// Measures the test of digits by itself, and answers the row of the table: gigabytes a second.
-fn digits(rounds: usize) -> String {
-    let long = line((64, 64, true), 0).into_bytes();
+fn digit_tests(rounds: usize) -> String {
+    let long = Input { width: 64, height: 64, lines: 1, refused: true }.line(0).into_bytes();
     let mut answer = vec![0; 32_783];
     let library = digit_test(&long, rounds, |line| raw::answer_line(line, &mut answer).written);
     let plain = digit_test(&long, rounds, |line| second::answer_line(line).len());
@@ -282,6 +305,6 @@ fn main() -> Result<(), Box<dyn Error>> {
     }
     println!("\nThe test of a line's digits by itself: gigabytes a second.\n");
     println!("{}", table_head(&["Digits", "Library", "Second implementation"]));
-    println!("{}", digits(rounds));
+    println!("{}", digit_tests(rounds));
     Ok(())
 }
