@@ -35,9 +35,8 @@ fn words_pass(s: &[u8]) -> bool
     let mut mark: u64 = 0;
     let mut i: usize = 0;
     while i < s.len() {
-        let e = i + 8;
-        mark = mark | faults(words::load(&s[i..e]));
-        i = e;
+        mark = mark | faults(words::word_at(s, i));
+        i += 8;
     }
     mark == 0
 }

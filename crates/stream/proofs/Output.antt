@@ -1,9 +1,9 @@
 -- How parts of an input come together: lines split over blocks give the same output; and the answers to one line. Assumes nothing.
-use Prim.Native.Nat.{ℕ, zero, suc, _+_, _*_, _-_, _≤_, _<_}
+use Prim.Native.Nat.{ℕ, zero, suc, _+_, _*_, _≤_, _<_}
 use mathlib.Core.Bool.{Bool, true, false, cond}
 use mathlib.Core.List.{List, [], _∷_, _++_, append-assoc, append-nil}
 use mathlib.Core.Path.{_≡_, refl, sym, ap, _∙_}
-use native.Mathlib.Nat.{zero-add, add-sub-cancel-left}
+use native.Mathlib.Nat.{zero-add}
 use native.Mathlib.Numerals.{add-one}
 use native.Mathlib.Omega.{arith}
 use lib.ListN.{length, take, drop, getD, drop-of-length-le, length-append}
@@ -152,23 +152,15 @@ search-found s i h e inv =
     let f : lineLength (drop i s) ≡ 0 = rw (drop-cons s i 0 h, e) refl in
     omega arith
 
--- and by words: a line feed among the eight bytes loaded, and none among them
-loaded-length : (s : List ℕ) (i n : ℕ) {word : List ℕ} → word ≡ take (i + 8 - i) (drop i s) → n ≡ lineLength word → n ≡ lineLength (take 8 (drop i s))
-loaded-length s i n e f = f ∙ ap lineLength (e ∙ rw (add-sub-cancel-left i 8) refl)
+-- and by words: a line feed among the eight bytes of a word, and none among them
+pub word-found : (s : List ℕ) (i n : ℕ) → n ≡ lineLength (take 8 (drop i s)) → n < 8 → lineLength s ≡ i + lineLength (drop i s) → i + n ≡ lineLength s
+word-found s i n e h inv = let f = length-found 8 (drop i s) (omega arith) in omega arith
 
-pub word-found : (s : List ℕ) (i n : ℕ) {word : List ℕ} → word ≡ take (i + 8 - i) (drop i s) → n ≡ lineLength word → n < 8
-    → lineLength s ≡ i + lineLength (drop i s) → i + n ≡ lineLength s
-word-found s i n e f h inv =
-    let g = loaded-length s i n e f in
-    let k = length-found 8 (drop i s) (omega arith) in
-    omega arith
-
-pub word-more : (s : List ℕ) (i n : ℕ) {word : List ℕ} → word ≡ take (i + 8 - i) (drop i s) → n ≡ lineLength word → 8 ≤ n
-    → lineLength s ≡ i + lineLength (drop i s) → lineLength s ≡ i + 8 + lineLength (drop (i + 8) s)
-word-more s i n e f h inv =
-    let g = loaded-length s i n e f in
-    let k = length-beyond 8 (drop i s) (omega arith) in
-    let l = ap lineLength (drop-drop 8 i s) in
+pub word-more : (s : List ℕ) (i n : ℕ) → n ≡ lineLength (take 8 (drop i s)) → 8 ≤ n → lineLength s ≡ i + lineLength (drop i s)
+    → lineLength s ≡ i + 8 + lineLength (drop (i + 8) s)
+word-more s i n e h inv =
+    let f = length-beyond 8 (drop i s) (omega arith) in
+    let g = ap lineLength (drop-drop 8 i s) in
     omega arith
 
 pub search-end : (s : List ℕ) (i : ℕ) → length s ≤ i → lineLength s ≡ i + lineLength (drop i s) → i ≡ lineLength s

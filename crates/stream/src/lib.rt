@@ -29,12 +29,11 @@ fn words_length(s: &[u8]) -> usize
 {
     let mut i: usize = 0;
     while i < s.len() {
-        let e = i + 8;
-        let n = word_length(words::load(&s[i..e]));
+        let n = word_length(words::word_at(s, i));
         if n < 8 {
             return i + n;
         }
-        i = e;
+        i += 8;
     }
     i
 }

@@ -2,7 +2,7 @@
 use Prim.Native.Nat.{ℕ, zero, suc, _+_, _*_, _/_, _%_, _^_, _≤_, _<_}
 use mathlib.Core.List.{List, [], _∷_}
 use mathlib.Core.Path.{_≡_, refl, sym, ap, _∙_}
-use native.Mathlib.Nat.{not-suc-le-zero, le-of-suc-le-suc, pow-succ', pow-suc, div-one, div-div-eq-div-mul, div-lt-iff-lt-mul}
+use native.Mathlib.Nat.{not-suc-le-zero, le-of-suc-le-suc, pow-succ', pow-suc, div-one, div-div-eq-div-mul}
 use native.Mathlib.Omega.{arith}
 use lib.Arith.{digits-div, digits-mod}
 use lib.ListN.{length, drop, getD, drop-of-length-le}
@@ -16,11 +16,14 @@ bytes-of-word [] h = refl
 bytes-of-word (b ∷ bs) h = rw (digits-mod (wordOf bs) (h 0), digits-div (wordOf bs) (h 0)) (ap (λ (l : List ℕ). b ∷ l) (bytes-of-word bs (λ i. h (suc i))))
 
 -- a word of n bytes is the one that is made from them
+pub fewer-bytes : (n w : ℕ) → w < 256 ^ suc n → w / 256 < 256 ^ n
+fewer-bytes n w h = let e : w < 256 ^ n * 256 = rw (pow-suc 256 n) at h in omega arith
+
 pub word-of-bytes : (n w : ℕ) → w < 256 ^ n → wordOf (bytesOf n w) ≡ w
 unfolding wordOf bytesOf
 word-of-bytes zero w h = omega arith
 word-of-bytes (suc n) w h =
-    let e : wordOf (bytesOf n (w / 256)) ≡ w / 256 = word-of-bytes n (w / 256) (div-lt-iff-lt-mul (omega arith) .1 (rw (pow-suc 256 n) at h)) in
+    let e : wordOf (bytesOf n (w / 256)) ≡ w / 256 = word-of-bytes n (w / 256) (fewer-bytes n w h) in
     omega arith
 
 -- so eight bytes are those of one 64-bit word alone

@@ -1,9 +1,8 @@
 -- A word as lanes of one byte each: an operation without carries works on the lowest byte and on the rest apart. Assumes nothing.
-use Prim.Native.Nat.{ℕ, zero, suc, _+_, _*_, _/_, _%_, _^_, _≤_, _<_}
+use Prim.Native.Nat.{ℕ, zero, suc, _+_, _*_, _/_, _%_, _^_, _<_}
 use mathlib.Core.Path.{_≡_, refl, ap₂, _∙_}
 use native.Mathlib.Omega.{arith}
-use lib.Bits.{bitAnd, bitOr, bitXor, and-block, or-block, xor-block, and-lt, or-lt, xor-lt, and-le-r}
-use lib.Dec.{lit<}
+use lib.Bits.{bitAnd, bitOr, bitXor, and-block, or-block, xor-block, and-lt, or-lt, xor-lt}
 
 -- x is the byte b below the word h
 pub record Lane (x h b : ℕ) : Type 0 where
@@ -39,13 +38,6 @@ or-lane = bits-lane bitOr or-block or-lt
 pub xor-lane : {x y h j a b : ℕ} → Lane x h a → Lane y j b → Lane (bitXor x y) (bitXor h j) (bitXor a b)
 xor-lane = bits-lane bitXor xor-block xor-lt
 
--- a sum that does not leave its lane: k of at most 128 more than the low seven bits of each byte
-abbrev pub raised : ℕ → ℕ → ℕ → ℕ
-raised k n x = bitAnd x (lanes n 127) + lanes n k
-
-pub raised-lane : {x h b : ℕ} (k n : ℕ) → k ≤ 128 → Lane x h b → Lane (raised k (suc n) x) (raised k n h) (bitAnd b 127 + k)
-raised-lane {x} {h} {b} k n l p =
-    let low = and-lane p (lanes-lane n 127 (lit< tt)) in
-    let e = low .joined in
-    let f = lanes-lane n k (omega arith) .joined in
-    record { joined = omega arith; byte = omega (arith, and-le-r b 127) }
+-- a sum that does not leave its lane
+pub add-lane : {x y h j a b : ℕ} → Lane x h a → Lane y j b → a + b < 256 → Lane (x + y) (h + j) (a + b)
+add-lane {x} {y} {h} {j} {a} {b} p q l = let e = p .joined in let f = q .joined in record { joined = omega arith; byte = l }

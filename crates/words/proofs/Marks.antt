@@ -1,6 +1,5 @@
--- Bytes marked in a word by bit 7: an operation that works lane by lane and marks each of the 256 bytes rightly marks every word rightly.
--- Assumes nothing.
-use Prim.Native.Nat.{ℕ, zero, suc, _+_, _*_, _/_, _%_, _^_, _<_}
+-- Bytes marked in a word by bit 7: whether any is, and which is the first. Assumes nothing.
+use Prim.Native.Nat.{ℕ, zero, suc, _+_, _*_, _/_, _%_, _^_}
 use mathlib.Core.Bool.{Bool, true, false, _&&_, cond}
 use mathlib.Core.List.{List, [], _∷_}
 use mathlib.Core.Path.{_≡_, refl, ap, ap₂, _∙_}
@@ -9,12 +8,8 @@ use native.Mathlib.Omega.{arith}
 use borrow.Author.Tests.{eqb-true, eqb-false, eq-eqb, ne-eqb}
 use lib.Bits.{shifted-half, shifted-even}
 use lib.Count.{trailingZeros}
-use lib.Dec.{T, eqb, eqb→eq}
+use lib.Dec.{eqb}
 use lib.ListN.{length}
-use Rattle.lists.specs.Tab.{tab}
-use Rattle.lists.proofs.Table.{every, at}
-use Rattle.words.specs.Word.{bytesOf}
-use Rattle.words.proofs.Lanes.{Lane}
 
 -- the mark of a byte: 128 where it fails the test p
 abbrev pub mark : (ℕ → Bool) → ℕ → ℕ
@@ -24,23 +19,6 @@ mark p b = cond (p b) 0 128
 unfoldable pub marks : (ℕ → Bool) → List ℕ → ℕ
 marks p [] = 0
 marks p (b ∷ bs) = marks p bs * 256 + mark p b
-
--- f marks each of the 256 bytes by p
-abbrev pub marksBytes : (ℕ → Bool) → (ℕ → ℕ) → Bool
-marksBytes p f = every (λ b x. eqb (f b) (mark p b)) 0 (tab (λ k. k) 256)
-
-byte-marked : (p : ℕ → Bool) (f : ℕ → ℕ) → T (marksBytes p f) → (b : ℕ) → b < 256 → f b ≡ mark p b
-unfolding tab
-byte-marked p f t b h = eqb→eq (f b) (mark p b) (at (λ b x. eqb (f b) (mark p b)) (tab (λ k. k) 256) t b h)
-
--- f n, on n lanes, works on the lowest and on those above it apart
-pub word-marked : (p : ℕ → Bool) (f : ℕ → ℕ → ℕ) → ((w : ℕ) → f 0 w ≡ 0)
-    → ((n w : ℕ) → Lane (f (suc n) w) (f n (w / 256)) (f 1 (w % 256))) → T (marksBytes p (f 1))
-    → (n w : ℕ) → f n w ≡ marks p (bytesOf n w)
-unfolding marks bytesOf
-word-marked p f none lane t zero w = none w
-word-marked p f none lane t (suc n) w =
-    lane n w .joined ∙ ap₂ (λ (x y : ℕ). x * 256 + y) (word-marked p f none lane t n (w / 256)) (byte-marked p (f 1) t (w % 256) (omega arith))
 
 -- there is no mark exactly where each byte passes
 pub unmarked : (p : ℕ → Bool) (b : ℕ) (bs : List ℕ) → eqb (marks p (b ∷ bs)) 0 ≡ (p b && eqb (marks p bs) 0)

@@ -1,7 +1,7 @@
 // Eight bytes held in one 64-bit word.
 ghost use mathlib.Core.Path.{_≡_};
-ghost use Prim.Native.Nat.{_+_, _*_, _<_};
-ghost use lib.ListN.{length};
+ghost use Prim.Native.Nat.{_+_, _*_, _≤_, _<_};
+ghost use lib.ListN.{length, take, drop};
 ghost use Rattle.words.specs.Word.{bytesOf};
 
 // Four bytes as a number, the first the lowest. The compiler makes one load of a word that is put together by halves.
@@ -12,9 +12,18 @@ fn half_word(a: u8, b: u8, c: u8, d: u8) -> u64
 }
 
 // The word that holds eight bytes, the first the lowest.
-pub fn load(s: &[u8]) -> u64
+fn load(s: &[u8]) -> u64
     requires { ⌜ length (now s) ≡ 8 ⌝ }
     ensures { λ r. ⌜ bytesOf 8 r ≡ now (s .entry) ⌝ }
 {
     half_word(s[0], s[1], s[2], s[3]) + 4294967296 * half_word(s[4], s[5], s[6], s[7])
+}
+
+// The word that holds the eight bytes of s from a place on.
+pub fn word_at(s: &[u8], i: usize) -> u64
+    requires { ⌜ i + 8 ≤ length (now s) ⌝ }
+    ensures { λ r. ⌜ bytesOf 8 r ≡ take 8 (drop i (now (s .entry))) ⌝ }
+{
+    let e = i + 8;
+    load(&s[i..e])
 }

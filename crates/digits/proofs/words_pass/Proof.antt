@@ -1,12 +1,11 @@
 -- `digits::words_pass` meets its contract.
 use Prim.Native.Nat.{_-_, _%_, _≤_}
 use mathlib.Core.Bool.{_&&_}
-use mathlib.Core.Path.{_≡_, refl, ap, _∙_}
-use native.Mathlib.Nat.{add-sub-cancel-left}
+use mathlib.Core.Path.{_≡_, ap, _∙_}
 use native.Mathlib.Omega.{arith}
 use borrow.Author.Needs.{needs}
 use lib.Dec.{eqb}
-use lib.ListN.{length, drop, length-take, length-drop}
+use lib.ListN.{length, drop}
 use Rattle.digits.specs.Digit.{allDigits, passes}
 use Rattle.digits.proofs.Test.{all-none, all-more, all-end}
 use Rattle.digits.proofs.words_pass.Statement.{statement}
@@ -21,23 +20,14 @@ abbrev μ-loop : tie.MeasureT-loop
 loop-holds : tie.Need-loop-holds Inv-loop μ-loop
 loop-holds c = (omega arith, omega arith, all-none _)
 
-add-e : tie.Need-add-e Inv-loop μ-loop
-add-e c = omega arith
-
-sub-load : tie.Need-sub-load Inv-loop μ-loop
-sub-load c = omega arith
-
-part-load-start : tie.Need-part-load-start Inv-loop μ-loop
-part-load-start c = search needs
-
-part-load-end : tie.Need-part-load-end Inv-loop μ-loop
-part-load-end c = search needs
-
-load-requires : tie.Need-load-requires Inv-loop μ-loop
-load-requires c κs = simp (length-take, length-drop) (omega arith)
+word-at-requires : tie.Need-word-at-requires Inv-loop μ-loop
+word-at-requires c κs = omega arith
 
 faults-requires : tie.Need-faults-requires Inv-loop μ-loop
 faults-requires c κs = search needs
+
+add-i : tie.Need-add-i Inv-loop μ-loop
+add-i c = omega arith
 
 loop-less : tie.Need-loop-less Inv-loop μ-loop
 loop-less c = omega arith
@@ -45,12 +35,10 @@ loop-less c = omega arith
 loop-again : tie.Need-loop-again Inv-loop μ-loop
 unfolding passes
 loop-again c =
-    let l = c .before .before .before .before in
-    let s = l .before .before .args .s .now in (
+    let l = c .before .before .before in (
       omega arith,
       omega arith,
-      all-more s (l .loop .i) (l .loop .mark) (c .faults .result) (l .loop .inv .2)
-          (c .faults .ensures ∙ ap allDigits (c .before .load .ensures ∙ rw (add-sub-cancel-left (l .loop .i) 8) refl)),
+      all-more (l .before .before .args .s .now) (l .loop .i) (l .loop .mark) (c .faults .result) (l .loop .inv .2) (c .faults .ensures ∙ ap allDigits (c .before .word-at .ensures)),
     )
 
 returns : tie.Need-returns Inv-loop μ-loop
@@ -63,12 +51,9 @@ words-pass-spec =
     Inv-loop
     μ-loop
     loop-holds
-    add-e
-    sub-load
-    part-load-start
-    part-load-end
-    load-requires
+    word-at-requires
     faults-requires
+    add-i
     loop-less
     loop-again
     returns)

@@ -1,9 +1,11 @@
--- `stream::word_length` meets its contract.
+-- `stream::word_length` meets its contract: its numbers are taken from the code, and the test of the 256 bytes is computed with them.
 use native.Mathlib.Omega.{arith}
 use lib.Bits.{bitXor, and-le-r}
-use lib.Count.{trailing-le}
+use Rattle.lists.specs.Tab.{tab}
 use Rattle.words.proofs.Lanes.{lanes}
-use Rattle.stream.proofs.Feed.{feedsOf, feed-place}
+use Rattle.words.proofs.Formula.{made-word, made-byte, made-and, made-or, made-xor, made-sum}
+use Rattle.stream.specs.Output.{inLine}
+use Rattle.stream.proofs.Feed.{formula-length, zeros-fit}
 use Rattle.stream.proofs.word_length.Statement.{statement}
 use Rattle.stream.proofs.word_length.Tie as tie
 
@@ -11,12 +13,21 @@ add-others : tie.Need-add-others
 add-others c = omega (arith, and-le-r (bitXor (c .args .w) 0x0a0a_0a0a_0a0a_0a0a) 0x7f7f_7f7f_7f7f_7f7f)
 
 cast-result : tie.Need-cast-result
-unfolding lanes
-cast-result c = omega (arith, trailing-le 64 (feedsOf 8 (c .args .w)))
+cast-result c = zeros-fit _
 
 returns : tie.Need-returns
-unfolding lanes
-returns c = feed-place (c .args .w)
+unfolding lanes inLine tab
+returns c =
+    formula-length (c .args .w) _
+    (made-xor
+    (made-and
+    (made-or
+    (made-sum (made-and (made-xor made-word (made-byte _ tt)) (made-byte _ tt)) (made-byte _ tt))
+    (made-xor made-word (made-byte _ tt)))
+    (made-byte _ tt))
+    (made-byte _ tt))
+    tt
+    (c .fits .w .fits)
 
 pub word-length-spec : {M : Type 1} → statement M
 word-length-spec = tie.close (tie.spec add-others cast-result returns)

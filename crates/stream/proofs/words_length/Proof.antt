@@ -1,10 +1,10 @@
 -- `stream::words_length` meets its contract.
 use Prim.Native.Nat.{_+_, _-_, _%_, _≤_}
-use mathlib.Core.Path.{_≡_, sym}
+use mathlib.Core.Path.{_≡_, sym, ap, _∙_}
 use native.Mathlib.Nat.{zero-add}
 use native.Mathlib.Omega.{arith}
 use borrow.Author.Needs.{needs}
-use lib.ListN.{length, drop, length-take, length-drop}
+use lib.ListN.{length, drop}
 use Rattle.stream.specs.Output.{lineLength}
 use Rattle.stream.proofs.Output.{word-more, word-found, search-end}
 use Rattle.stream.proofs.words_length.Statement.{statement}
@@ -19,20 +19,8 @@ abbrev μ-loop : tie.MeasureT-loop
 loop-holds : tie.Need-loop-holds Inv-loop μ-loop
 loop-holds c = (omega arith, omega arith, sym (zero-add _))
 
-add-e : tie.Need-add-e Inv-loop μ-loop
-add-e c = omega arith
-
-sub-load : tie.Need-sub-load Inv-loop μ-loop
-sub-load c = omega arith
-
-part-load-start : tie.Need-part-load-start Inv-loop μ-loop
-part-load-start c = search needs
-
-part-load-end : tie.Need-part-load-end Inv-loop μ-loop
-part-load-end c = search needs
-
-load-requires : tie.Need-load-requires Inv-loop μ-loop
-load-requires c κs = simp (length-take, length-drop) (omega arith)
+word-at-requires : tie.Need-word-at-requires Inv-loop μ-loop
+word-at-requires c κs = omega arith
 
 word-length-requires : tie.Need-word-length-requires Inv-loop μ-loop
 word-length-requires c κs = search needs
@@ -42,18 +30,21 @@ add-result c = omega arith
 
 returns : tie.Need-returns Inv-loop μ-loop
 returns c =
-    let l = c .before .before .before .before .before in
-    word-found (l .before .before .args .s .now) (l .loop .i) (c .before .word-length .result) (c .before .before .load .ensures) (c .before .word-length .ensures) (omega arith) (l .loop .inv .2)
+    let l = c .before .before .before .before in
+    word-found (l .before .before .args .s .now) (l .loop .i) (c .before .word-length .result) (c .before .word-length .ensures ∙ ap lineLength (c .before .before .word-at .ensures)) (omega arith) (l .loop .inv .2)
+
+add-i : tie.Need-add-i Inv-loop μ-loop
+add-i c = omega arith
 
 loop-less : tie.Need-loop-less Inv-loop μ-loop
 loop-less c = omega arith
 
 loop-again : tie.Need-loop-again Inv-loop μ-loop
 loop-again c =
-    let l = c .before .before .before .before .before in (
+    let l = c .before .before .before .before in (
       omega arith,
       omega arith,
-      word-more (l .before .before .args .s .now) (l .loop .i) (c .before .word-length .result) (c .before .before .load .ensures) (c .before .word-length .ensures) (omega arith) (l .loop .inv .2),
+      word-more (l .before .before .args .s .now) (l .loop .i) (c .before .word-length .result) (c .before .word-length .ensures ∙ ap lineLength (c .before .before .word-at .ensures)) (omega arith) (l .loop .inv .2),
     )
 
 returns-2 : tie.Need-returns-2 Inv-loop μ-loop
@@ -66,14 +57,11 @@ words-length-spec =
     Inv-loop
     μ-loop
     loop-holds
-    add-e
-    sub-load
-    part-load-start
-    part-load-end
-    load-requires
+    word-at-requires
     word-length-requires
     add-result
     returns
+    add-i
     loop-less
     loop-again
     returns-2)
