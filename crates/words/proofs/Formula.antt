@@ -10,22 +10,15 @@ use Rattle.lists.specs.Tab.{tab}
 use Rattle.lists.proofs.Table.{both, both-left, both-right, every, at}
 use Rattle.words.specs.Word.{bytesOf}
 use Rattle.words.proofs.Held.{fewer-bytes}
-use Rattle.words.proofs.Lanes.{Lane, lanes, word-lane, lanes-lane, and-lane, or-lane, xor-lane, add-lane}
+use Rattle.words.proofs.Lanes.{Op, and, or, xor, apply, Lane, lanes, word-lane, lanes-lane, bits-lane, sum-lane}
 use Rattle.words.proofs.Marks.{mark, marks}
 
-pub data Op : Type 0 where
-  and or xor : Op
-
+-- made of a word, and of bytes that stand in every lane
 pub data Formula : Type 0 where
   word : Formula
   byte : ℕ → Formula
   bits : Op → Formula → Formula → Formula
   sum : Formula → Formula → Formula
-
-abbrev pub apply : Op → ℕ → ℕ → ℕ
-apply and x y = bitAnd x y
-apply or x y = bitOr x y
-apply xor x y = bitXor x y
 
 -- what it makes of a word, where a byte k stands for the number `of k`
 abbrev pub value : (ℕ → ℕ) → Formula → ℕ → ℕ
@@ -46,27 +39,26 @@ stays (bits o f g) b = both (stays f b) (stays g b)
 stays (sum f g) b = both (ltb (atByte f b + atByte g b) 256) (both (stays f b) (stays g b))
 
 -- f marks each of the 256 bytes by the test p, and nothing above them
+abbrev emptyAbove : Formula → Bool
+emptyAbove f = eqb (value (lanes 0) f 0) 0
+
 abbrev marksByte : (ℕ → Bool) → Formula → ℕ → ℕ → Bool
 marksByte p f b x = both (stays f b) (eqb (atByte f b) (mark p b))
 
-abbrev pub marksBytes : (ℕ → Bool) → Formula → Bool
-marksBytes p f = both (eqb (value (lanes 0) f 0) 0) (every (marksByte p f) 0 (tab (λ k. k) 256))
+abbrev marksAll : (ℕ → Bool) → Formula → Bool
+marksAll p f = every (marksByte p f) 0 (tab (λ k. k) 256)
 
-nothing-above : (p : ℕ → Bool) (f : Formula) → T (marksBytes p f) → value (lanes 0) f 0 ≡ 0
-nothing-above p f t = eqb→eq (value (lanes 0) f 0) 0 (both-left (eqb (value (lanes 0) f 0) 0) (every (marksByte p f) 0 (tab (λ k. k) 256)) t)
+abbrev pub marksBytes : (ℕ → Bool) → Formula → Bool
+marksBytes p f = both (emptyAbove f) (marksAll p f)
 
 byte-marked : (p : ℕ → Bool) (f : Formula) → T (marksBytes p f) → (b : ℕ) → b < 256 → T (stays f b) × (atByte f b ≡ mark p b)
 unfolding tab
 byte-marked p f t b h =
-    let u = at (marksByte p f) (tab (λ k. k) 256) (both-right (eqb (value (lanes 0) f 0) 0) (every (marksByte p f) 0 (tab (λ k. k) 256)) t) b h in
-    (both-left (stays f b) (eqb (atByte f b) (mark p b)) u, eqb→eq (atByte f b) (mark p b) (both-right (stays f b) (eqb (atByte f b) (mark p b)) u))
+    let u = at (marksByte p f) (tab (λ k. k) 256) (both-right (emptyAbove f) (marksAll p f) t) b h in
+    let right = eqb (atByte f b) (mark p b) in
+    (both-left (stays f b) right u, eqb→eq (atByte f b) (mark p b) (both-right (stays f b) right u))
 
 -- ---- n lanes: the lowest, and those above it
-bits-lane : (o : Op) {x y h j a b : ℕ} → Lane x h a → Lane y j b → Lane (apply o x y) (apply o h j) (apply o a b)
-bits-lane and p q = and-lane p q
-bits-lane or p q = or-lane p q
-bits-lane xor p q = xor-lane p q
-
 lane : (f : Formula) (n w : ℕ) → T (stays f (w % 256)) → Lane (value (lanes (suc n)) f w) (value (lanes n) f (w / 256)) (atByte f (w % 256))
 lane word n w t = word-lane w
 lane (byte k) n w t = lanes-lane n k (ltb→lt k 256 t)
@@ -79,11 +71,11 @@ lane (sum f g) n w t =
     let u = stays g (w % 256) in
     let x = atByte f (w % 256) + atByte g (w % 256) in
     let v = both-right (ltb x 256) (both s u) t in
-    add-lane (lane f n w (both-left s u v)) (lane g n w (both-right s u v)) (ltb→lt x 256 (both-left (ltb x 256) (both s u) t))
+    sum-lane (lane f n w (both-left s u v)) (lane g n w (both-right s u v)) (ltb→lt x 256 (both-left (ltb x 256) (both s u) t))
 
 lanes-marked : (p : ℕ → Bool) (f : Formula) → T (marksBytes p f) → (n w : ℕ) → w < 256 ^ n → value (lanes n) f w ≡ marks p (bytesOf n w)
 unfolding marks bytesOf
-lanes-marked p f t zero w h = let e : w ≡ 0 = omega arith in ap (λ (x : ℕ). value (lanes 0) f x) e ∙ nothing-above p f t
+lanes-marked p f t zero w h = let e : w ≡ 0 = omega arith in ap (λ (x : ℕ). value (lanes 0) f x) e ∙ eqb→eq (value (lanes 0) f 0) 0 (both-left (emptyAbove f) (marksAll p f) t)
 lanes-marked p f t (suc n) w h =
     let (s, e) = byte-marked p f t (w % 256) (omega arith) in
     lane f n w s .joined ∙ ap₂ (λ (x y : ℕ). x * 256 + y) (lanes-marked p f t n (w / 256) (fewer-bytes n w h)) e

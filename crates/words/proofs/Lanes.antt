@@ -22,22 +22,26 @@ unfolding lanes
 lanes-lane n k h = record { joined = refl; byte = h }
 
 -- an operation bit by bit
+pub data Op : Type 0 where
+  and or xor : Op
+
+abbrev pub apply : Op → ℕ → ℕ → ℕ
+apply and x y = bitAnd x y
+apply or x y = bitOr x y
+apply xor x y = bitXor x y
+
 module _ (op : ℕ → ℕ → ℕ)
     (block : (k a b r s : ℕ) → r < 2 ^ k → s < 2 ^ k → op (a * 2 ^ k + r) (b * 2 ^ k + s) ≡ op a b * 2 ^ k + op r s)
     (below : (k a b : ℕ) → a < 2 ^ k → b < 2 ^ k → op a b < 2 ^ k) where
-  bits-lane : {x y h j a b : ℕ} → Lane x h a → Lane y j b → Lane (op x y) (op h j) (op a b)
-  bits-lane {x} {y} {h} {j} {a} {b} p q =
+  apart : {x y h j a b : ℕ} → Lane x h a → Lane y j b → Lane (op x y) (op h j) (op a b)
+  apart {x} {y} {h} {j} {a} {b} p q =
       record { joined = ap₂ op (p .joined) (q .joined) ∙ block 8 h j a b (p .byte) (q .byte); byte = below 8 a b (p .byte) (q .byte) }
 
-pub and-lane : {x y h j a b : ℕ} → Lane x h a → Lane y j b → Lane (bitAnd x y) (bitAnd h j) (bitAnd a b)
-and-lane = bits-lane bitAnd and-block and-lt
-
-pub or-lane : {x y h j a b : ℕ} → Lane x h a → Lane y j b → Lane (bitOr x y) (bitOr h j) (bitOr a b)
-or-lane = bits-lane bitOr or-block or-lt
-
-pub xor-lane : {x y h j a b : ℕ} → Lane x h a → Lane y j b → Lane (bitXor x y) (bitXor h j) (bitXor a b)
-xor-lane = bits-lane bitXor xor-block xor-lt
+pub bits-lane : (o : Op) {x y h j a b : ℕ} → Lane x h a → Lane y j b → Lane (apply o x y) (apply o h j) (apply o a b)
+bits-lane and p q = apart bitAnd and-block and-lt p q
+bits-lane or p q = apart bitOr or-block or-lt p q
+bits-lane xor p q = apart bitXor xor-block xor-lt p q
 
 -- a sum that does not leave its lane
-pub add-lane : {x y h j a b : ℕ} → Lane x h a → Lane y j b → a + b < 256 → Lane (x + y) (h + j) (a + b)
-add-lane {x} {y} {h} {j} {a} {b} p q l = let e = p .joined in let f = q .joined in record { joined = omega arith; byte = l }
+pub sum-lane : {x y h j a b : ℕ} → Lane x h a → Lane y j b → a + b < 256 → Lane (x + y) (h + j) (a + b)
+sum-lane {x} {y} {h} {j} {a} {b} p q l = let e = p .joined in let f = q .joined in record { joined = omega arith; byte = l }
