@@ -9,7 +9,8 @@
  *
  * Straightening     straightener_straighten, straightener_move_line
  * Settings, steps   straightener_with_kernel, straightener_with_centre, straightener_with_shears,
- *                   straightener_with_step, straightener_sine, straightener_level
+ *                   straightener_with_border, straightener_with_step, straightener_sine,
+ *                   straightener_level
  * Readings          straightener_greys_out, straightener_floats_out, straightener_reading,
  *                   straightener_summary
  * Line format       straightener_answer_line
@@ -24,9 +25,10 @@
  * function keeps a pointer or any state, so calls on different buffers may run at the same time.
  *
  * Refusals. Every answer that is a struct with a number may be a refusal; number 0 says that the call
- * was accepted. Of several numbers that apply the lowest is answered, but a line of the line format
- * that is not well-formed is answered with 9. A refused call leaves every buffer untouched, and every
- * figure of its answer but the number is 0, except where it is said otherwise below.
+ * was accepted. Of several numbers that apply the lowest is answered, but 12 is judged after 5 and
+ * before 6, and a line of the line format that is not well-formed is answered with 9. A refused call
+ * leaves every buffer untouched, and every figure of its answer but the number is 0, except where it is
+ * said otherwise below.
  *
  *   1  width, height or line length is 0 or over 1,024
  *   2  a buffer is too short
@@ -37,6 +39,7 @@
  *   7  a point lies outside the picture (levelling: a coordinate is not from 0 to 1,023)
  *   8  the two points of a graticule line do not run to the right, or are steeper than 45 degrees
  *   9  a line of the line format is not well-formed, or has over 4,096 greys
+ *  12  the background is beyond +-32,767; never where the border is wrapped
  */
 #ifndef STRAIGHTENER_H
 #define STRAIGHTENER_H
@@ -59,11 +62,15 @@ enum {
     STRAIGHTENER_SAMPLE = 6,
     STRAIGHTENER_POINT = 7,
     STRAIGHTENER_SLOPE = 8,
-    STRAIGHTENER_LINE = 9
+    STRAIGHTENER_LINE = 9,
+    STRAIGHTENER_BACKGROUND = 12
 };
 
 /* The kernels: triangle, Keys' cubic convolution with a = -1/2, cubic spline. */
 enum { STRAIGHTENER_LINEAR = 0, STRAIGHTENER_KEYS = 1, STRAIGHTENER_SPLINE = 2 };
+
+/* The borders: beyond its ends a line goes on with its other end, or with background. */
+enum { STRAIGHTENER_WRAPPED = 0, STRAIGHTENER_ON_BACKGROUND = 1 };
 
 /* The cases of a reading. */
 enum { STRAIGHTENER_LEVEL = 0, STRAIGHTENER_UNDER = 1, STRAIGHTENER_OVER = 2 };
@@ -73,9 +80,13 @@ enum { STRAIGHTENER_LEVEL = 0, STRAIGHTENER_UNDER = 1, STRAIGHTENER_OVER = 2 };
 
 /*
  * How a picture is straightened. Any values may stand in it: they are tested where it is used.
- *   kernel  0, 1 or 2
- *   cx, cy  column and row of the centre, which stays where it is; cx below the width, cy below the height
- *   a, b    shears of the rows and of the columns, in 4,096ths, each from -4,096 to 4,096
+ *   kernel      0, 1 or 2
+ *   cx, cy      column and row of the centre, which stays where it is; cx below the width, cy below the
+ *               height
+ *   a, b        shears of the rows and of the columns, in 4,096ths, each from -4,096 to 4,096
+ *   border      0 wrapped, any other number background
+ *   background  the background's sample value, in units of 1/128 grey, within +-32,767; ignored where
+ *               the border is wrapped
  */
 typedef struct {
     uint32_t kernel;
@@ -83,14 +94,16 @@ typedef struct {
     size_t cy;
     int32_t a;
     int32_t b;
+    uint32_t border;
+    int32_t background;
 } straightener_setting;
 
 /*
  * What most calls answer.
  *   number       0, or the refusal number
  *   row, column  under number 6 the place of the first sample beyond the range, else 0
- *   count        the number of lines interpolated, those that did not move by whole samples; a row
- *                that is interpolated in both its passes counts twice
+ *   count        the number of lines interpolated, those that neither moved by whole samples nor
+ *                became all background; a row that is interpolated in both its passes counts twice
  */
 typedef struct {
     uint32_t number;
@@ -146,16 +159,22 @@ typedef struct {
 
 /*
  * Straightens a picture: rows moved by a * (y - cy), columns by b * (x - cx), rows again, each in
- * 4,096ths of a sample, with wrapped edges.
+ * 4,096ths of a sample. Wrapped, what leaves a line at one end comes in at the other. On background, a
+ * line of N samples that moves by N samples or more, either way, becomes all background; one that moves
+ * by less is set between N background samples on each side, and of that longer line, moved with
+ * wrapping, the middle N are kept. N is the width for a row and the height for a column.
  *   width, height  1 to 1,024
  *   setting        see above
  *   picture        at least width * height places; samples within +-32,767
  *   result         at least width * height places; so many receive the straightened picture, whose
  *                  samples may lie beyond +-32,767 but never beyond the +-1,048,576 of the readings
- *   work           at least 4 * max(width, height) places; so many are 0 afterwards
- * Refuses under 1, 2, 3, 4, 5, 6. The count is at most 2 * (height - 1) + (width - 1).
- * No sample of the result lies further from the same three passes in exact fractions than 3/2 units
- * (kernel 0), 2 units (kernel 1) or 10 units (kernel 2) of 1/128 grey.
+ *   work           at least 12 * max(width, height) places; so many are 0 afterwards, under either border
+ * Refuses under 1, 2, 3, 4, 5, 12, 6, the first of these that applies. The count is at most
+ * 2 * (height - 1) + (width - 1).
+ * Under either border no sample of the result lies further from the same three passes in exact fractions
+ * than 3/2 units (kernel 0), 2 units (kernel 1) or 10 units (kernel 2) of 1/128 grey. The result is
+ * exact where every line moves by whole samples, and for a picture of one grey whose border is wrapped
+ * or whose background has that grey too.
  */
 straightener_answer straightener_straighten(size_t width, size_t height, straightener_setting setting,
                                             const int32_t *picture, size_t picture_len,
@@ -163,30 +182,39 @@ straightener_answer straightener_straighten(size_t width, size_t height, straigh
                                             int32_t *work, size_t work_len);
 
 /*
- * Moves one line, with wrapped ends.
- *   n       samples of the line, 1 to 1,024
- *   kernel  0, 1 or 2
- *   d       the move in 4,096ths of a sample, toward higher places if positive; within +-4,194,304
- *   line    at least n places; samples within +-294,912
- *   result  at least n places; so many receive the moved line
- *   work    at least 2 * n places; so many are 0 afterwards
- * Refuses under 1, 2, 4, 5, 6 (row 0). The count is 1 if the line was interpolated, 0 if it moved by
- * whole samples.
+ * Moves one line.
+ *   n           samples of the line, 1 to 1,024
+ *   kernel      0, 1 or 2
+ *   d           the move in 4,096ths of a sample, toward higher places if positive; within +-4,194,304
+ *   border      0 wrapped, any other number background
+ *   background  the background's sample value, in units of 1/128 grey, within +-32,767; ignored where
+ *               the border is wrapped
+ *   line        at least n places; samples within +-294,912
+ *   result      at least n places; so many receive the moved line
+ *   work        at least 6 * n places; so many are 0 afterwards, under either border
+ * Refuses under 1, 2, 4, 5, 12, 6 (row 0), the first of these that applies. The count is 1 if the line
+ * was interpolated, 0 if it moved by whole samples or, on background, by n samples or more either way,
+ * which makes it all background.
  */
 straightener_answer straightener_move_line(size_t n, uint32_t kernel, int32_t d,
+                                           uint32_t border, int32_t background,
                                            const int32_t *line, size_t line_len,
                                            int32_t *result, size_t result_len,
                                            int32_t *work, size_t work_len);
 
 /*
  * The setting with one part changed, to what is handed in, and the others kept. Nothing is refused.
- *   kernel  the kernel: 0, 1 or 2
- *   cx, cy  the centre: its column, then its row, both counted from 0
- *   a, b    the shears, of the rows and then of the columns, in 4,096ths
+ *   kernel      the kernel: 0, 1 or 2
+ *   cx, cy      the centre: its column, then its row, both counted from 0
+ *   a, b        the shears, of the rows and then of the columns, in 4,096ths
+ *   border      the border: 0 wrapped, any other number background
+ *   background  the background's sample value, in units of 1/128 grey; kept, and ignored, where wrapped
  */
 straightener_setting straightener_with_kernel(straightener_setting setting, uint32_t kernel);
 straightener_setting straightener_with_centre(straightener_setting setting, size_t cx, size_t cy);
 straightener_setting straightener_with_shears(straightener_setting setting, int32_t a, int32_t b);
+straightener_setting straightener_with_border(straightener_setting setting, uint32_t border,
+                                              int32_t background);
 
 /*
  * The setting with the shears of step t, a = -t and b = S(t), and the rest kept.

@@ -1,9 +1,10 @@
 //! Straightens pictures of analyser screens by three shears in whole numbers.
 //!
 //! The work is done by a library that is proved: for every input a call is either accepted, and its
-//! result is the one that document 01 defines, or refused under one of nine numbers with no buffer
+//! result is the one that documents 01 and 02 define, or refused under one of ten numbers with no buffer
 //! touched. Every sample of a straightened picture lies within 3/2 units (linear), 2 units (Keys) or
-//! 10 units (cubic spline) of the same three shears computed in exact fractions; 128 units are one grey.
+//! 10 units (cubic spline) of the same three shears computed in exact fractions, with wrapped edges and
+//! on background; 128 units are one grey.
 //!
 //! # A picture straightened
 //!
@@ -32,7 +33,7 @@
 //!
 //! [`straighten`], [`move_line`], every change of a [`Setting`], [`level`], [`sine`], the readings and
 //! [`answer_line`] call the proved library, which is x86-64 Linux code. [`raw`] is its C interface.
-//! [`second`] is an independent second implementation of the same document, and [`exact`] its exact
+//! [`second`] is an independent second implementation of the same documents, and [`exact`] their exact
 //! pictures in fractions; both are for tests and the benchmark.
 
 pub mod exact;
@@ -50,5 +51,5 @@ pub use refusal::Refusal;
 #[cfg(feature = "library")]
 pub use wrapper::{
     answer_line, floats_out, greys_out, level, line_work_places, move_line, reading, sine, straighten,
-    straightened, summary, work_places, Kernel, Reading, Setting, Summary,
+    straightened, summary, work_places, Border, Kernel, Reading, Setting, Summary,
 };

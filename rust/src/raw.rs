@@ -4,7 +4,7 @@
 //! theirs can say, such as a kernel number that there is no kernel for. `include/straightener.h` says
 //! what every argument means.
 
-/// Kernel, centre and shears, as the library takes them.
+/// Kernel, centre, shears and border, as the library takes them.
 #[repr(C)]
 #[derive(Clone, Copy, Debug, Default, PartialEq, Eq, Hash)]
 pub struct Setting {
@@ -18,6 +18,10 @@ pub struct Setting {
     pub a: i32,
     /// Shear of the columns, in 4,096ths.
     pub b: i32,
+    /// 0 wrapped, any other number background.
+    pub border: u32,
+    /// The background's sample value, in units of 1/128 grey; ignored where wrapped.
+    pub background: i32,
 }
 
 /// What most calls answer.
@@ -108,7 +112,7 @@ mod linked {
             work: *mut i32, work_len: usize,
         ) -> Answer;
         pub fn straightener_move_line(
-            n: usize, kernel: u32, d: i32,
+            n: usize, kernel: u32, d: i32, border: u32, background: i32,
             line: *const i32, line_len: usize,
             result: *mut i32, result_len: usize,
             work: *mut i32, work_len: usize,
@@ -116,6 +120,7 @@ mod linked {
         pub fn straightener_with_kernel(setting: Setting, kernel: u32) -> Setting;
         pub fn straightener_with_centre(setting: Setting, cx: usize, cy: usize) -> Setting;
         pub fn straightener_with_shears(setting: Setting, a: i32, b: i32) -> Setting;
+        pub fn straightener_with_border(setting: Setting, border: u32, background: i32) -> Setting;
         pub fn straightener_with_step(setting: Setting, t: i32) -> Change;
         pub fn straightener_sine(t: i32) -> Step;
         pub fn straightener_level(x1: i32, y1: i32, x2: i32, y2: i32) -> Step;
@@ -176,10 +181,13 @@ pub fn straighten(
 }
 
 /// Moves one line.
+#[allow(clippy::too_many_arguments)]
 pub fn move_line(
     n: usize,
     kernel: u32,
     d: i32,
+    border: u32,
+    background: i32,
     line: &[i32],
     result: &mut [i32],
     work: &mut [i32],
@@ -189,7 +197,9 @@ pub fn move_line(
     let (work, work_len) = (work.as_mut_ptr(), work.len());
     // SAFETY: borrowed slices, see above.
     unsafe {
-        linked::straightener_move_line(n, kernel, d, line, line_len, result, result_len, work, work_len)
+        linked::straightener_move_line(
+            n, kernel, d, border, background, line, line_len, result, result_len, work, work_len,
+        )
     }
 }
 
@@ -209,6 +219,12 @@ pub fn with_centre(setting: Setting, cx: usize, cy: usize) -> Setting {
 pub fn with_shears(setting: Setting, a: i32, b: i32) -> Setting {
     // SAFETY: plain values.
     unsafe { linked::straightener_with_shears(setting, a, b) }
+}
+
+/// The setting with another border: 0 wrapped, any other number background of a sample value.
+pub fn with_border(setting: Setting, border: u32, background: i32) -> Setting {
+    // SAFETY: plain values.
+    unsafe { linked::straightener_with_border(setting, border, background) }
 }
 
 /// The setting with the shears of a step.

@@ -38,10 +38,12 @@ pub enum Refusal {
     Slope,
     /// Number 9: a line of the line format that is not well-formed.
     Line,
+    /// Number 12: a background beyond plus or minus 32,767; judged after number 5 and before number 6.
+    Background,
 }
 
 impl Refusal {
-    /// The number that document 01, the C interface and the line program give the refusal.
+    /// The number that the documents, the C interface and the line program give the refusal.
     pub fn number(self) -> u32 {
         match self {
             Refusal::Size => 1,
@@ -53,6 +55,7 @@ impl Refusal {
             Refusal::Point => 7,
             Refusal::Slope => 8,
             Refusal::Line => 9,
+            Refusal::Background => 12,
         }
     }
 
@@ -68,6 +71,7 @@ impl Refusal {
             7 => Refusal::Point,
             8 => Refusal::Slope,
             9 => Refusal::Line,
+            12 => Refusal::Background,
             _ => return None,
         })
     }
@@ -79,7 +83,7 @@ impl fmt::Display for Refusal {
             Refusal::Size => f.write_str("width, height and line length must be from 1 to 1,024"),
             Refusal::Buffer => f.write_str(
                 "a buffer is too short: a picture, result or output takes width x height places, and work takes \
-                 4 x the longer side (for a single line: the line's length, and work twice that)",
+                 12 x the longer side (for a single line: the line's length, and work six times that)",
             ),
             Refusal::Centre => f.write_str(
                 "the centre lies outside the picture: its column must be below the width and its row below the height",
@@ -103,6 +107,10 @@ impl fmt::Display for Refusal {
             Refusal::Line => f.write_str(
                 "the line must be upper-case hexadecimal digits and nothing else: 22, then 2 for each of its \
                  width x height greys, of which there may be 4,096",
+            ),
+            Refusal::Background => f.write_str(
+                "the background must be a sample from -32,767 to 32,767, 128 units to one grey: 0 is black, and \
+                 32,640 is white",
             ),
         }
     }

@@ -18,18 +18,39 @@ pub enum Kernel {
     Spline,
 }
 
-/// Kernel, centre and shears of a straightening.
+/// What lies beyond the ends of the lines that are moved.
+#[derive(Clone, Copy, Debug, Default, PartialEq, Eq, Hash)]
+pub enum Border {
+    /// The line again: what leaves at one end comes in at the other, in the opposite corner.
+    #[default]
+    Wrapped,
+    /// Background of one sample value, within plus or minus 32,767, 128 units to one grey.
+    Background(i32),
+}
+
+impl Border {
+    /// The border's number and the background's sample value, as the library takes them.
+    fn numbers(self) -> (u32, i32) {
+        match self {
+            Border::Wrapped => (0, 0),
+            Border::Background(value) => (1, value),
+        }
+    }
+}
+
+/// Kernel, centre, shears and border of a straightening.
 ///
 /// Every change hands back a new setting with the rest kept. Values are tested where the setting is
 /// used; only a change by step is tested at once.
 ///
 /// ```
 /// # fn main() -> Result<(), straightener::Refusal> {
-/// use straightener::{Kernel, Refusal, Setting};
+/// use straightener::{Border, Kernel, Refusal, Setting};
 ///
 /// let setting = Setting::new().with_kernel(Kernel::Keys).with_centre(320, 240).with_step(80)?;
 /// assert_eq!(setting.shears(), (-80, 160));
 /// assert_eq!(setting.centre(), (320, 240));
+/// assert_eq!(setting.border(), Border::Wrapped);
 /// assert_eq!(setting.with_step(1_698), Err(Refusal::Shear));
 /// # Ok(())
 /// # }
@@ -38,7 +59,7 @@ pub enum Kernel {
 pub struct Setting(raw::Setting);
 
 impl Setting {
-    /// The linear kernel, the centre at column 0 and row 0, and no shear.
+    /// The linear kernel, the centre at column 0 and row 0, no shear, and wrapped edges.
     pub fn new() -> Setting {
         Setting::default()
     }
@@ -56,6 +77,31 @@ impl Setting {
     /// This setting with other shears of the rows and of the columns, in 4,096ths: -4,096 to 4,096.
     pub fn with_shears(self, rows: i32, columns: i32) -> Setting {
         Setting(raw::with_shears(self.0, rows, columns))
+    }
+
+    /// This setting with another border, for the rows and for the columns.
+    ///
+    /// ```
+    /// # fn main() -> Result<(), straightener::Refusal> {
+    /// use straightener::{straightened, Border, Setting};
+    ///
+    /// // The lower row moves right by one sample in each of its two passes.
+    /// let picture = [10, 20, 30, 90, 10, 20, 30, 90];
+    /// let setting = Setting::new().with_shears(4_096, 0);
+    ///
+    /// // Wrapped, the right end of its trace stands in the left corner.
+    /// let (wrapped, _) = straightened(4, 2, setting, &picture)?;
+    /// assert_eq!(wrapped, [10, 20, 30, 90, 30, 90, 10, 20]);
+    ///
+    /// // On background, the corner stays background.
+    /// let (result, _) = straightened(4, 2, setting.with_border(Border::Background(0)), &picture)?;
+    /// assert_eq!(result, [10, 20, 30, 90, 0, 0, 10, 20]);
+    /// # Ok(())
+    /// # }
+    /// ```
+    pub fn with_border(self, border: Border) -> Setting {
+        let (border, background) = border.numbers();
+        Setting(raw::with_border(self.0, border, background))
     }
 
     /// This setting with the shears of a step: 4,096 times the tangent of half the angle, from -1,697
@@ -84,6 +130,14 @@ impl Setting {
     /// The shears of the rows and of the columns, in 4,096ths.
     pub fn shears(self) -> (i32, i32) {
         (self.0.a, self.0.b)
+    }
+
+    /// The border.
+    pub fn border(self) -> Border {
+        match self.0.border {
+            0 => Border::Wrapped,
+            _ => Border::Background(self.0.background),
+        }
     }
 }
 
@@ -117,18 +171,18 @@ pub struct Summary {
 fn accepted(number: u32, row: usize, column: usize) -> Result<(), Refusal> {
     match number {
         0 => Ok(()),
-        _ => Err(Refusal::from_number(number, row, column).expect("refusals are numbered 1 to 9")),
+        _ => Err(Refusal::from_number(number, row, column).expect("refusals are 1 to 9 and 12")),
     }
 }
 
-/// The places of work that [`straighten`] takes: 4 times the longer side.
+/// The places of work that [`straighten`] takes: 12 times the longer side.
 pub fn work_places(width: usize, height: usize) -> usize {
-    width.max(height).saturating_mul(4)
+    width.max(height).saturating_mul(12)
 }
 
-/// The places of work that [`move_line`] takes: twice the line's length.
+/// The places of work that [`move_line`] takes: six times the line's length.
 pub fn line_work_places(length: usize) -> usize {
-    length.saturating_mul(2)
+    length.saturating_mul(6)
 }
 
 /// Straightens a picture into buffers of the caller's and answers the number of lines interpolated.
@@ -137,8 +191,9 @@ pub fn line_work_places(length: usize) -> usize {
 /// [`work_places`]; samples of the picture lie within plus or minus 32,767, 128 to one grey. Afterwards
 /// those places of `work` are 0. Longer buffers are fine: their later places stay as they are.
 ///
-/// Refused with [`Refusal::Size`], [`Refusal::Buffer`], [`Refusal::Centre`], [`Refusal::Shear`] or
-/// [`Refusal::Sample`], the first of them that applies; then no buffer is touched.
+/// Refused with [`Refusal::Size`], [`Refusal::Buffer`], [`Refusal::Centre`], [`Refusal::Shear`],
+/// [`Refusal::Background`] or [`Refusal::Sample`], the first of them that applies; then no buffer is
+/// touched.
 ///
 /// ```
 /// # fn main() -> Result<(), straightener::Refusal> {
@@ -193,32 +248,41 @@ pub fn straightened(
     Ok((result, count))
 }
 
-/// Moves a line by d/4,096 samples, toward higher places for a positive d, with wrapped ends; answers
-/// whether it was interpolated, that is, did not move by whole samples.
+/// Moves a line by d/4,096 samples, toward higher places for a positive d; answers whether it was
+/// interpolated, that is, neither moved by whole samples nor became all background. On background that
+/// is what becomes of a line that moves by its own length or more, either way.
 ///
 /// `result` takes as many places as the line and `work` takes [`line_work_places`]. The line has 1 to
-/// 1,024 samples within plus or minus 294,912; d lies within plus or minus 4,194,304.
+/// 1,024 samples within plus or minus 294,912; d lies within plus or minus 4,194,304, and a background
+/// within plus or minus 32,767.
 ///
-/// Refused with [`Refusal::Size`], [`Refusal::Buffer`], [`Refusal::Shear`] or [`Refusal::Sample`].
+/// Refused with [`Refusal::Size`], [`Refusal::Buffer`], [`Refusal::Shear`], [`Refusal::Background`] or
+/// [`Refusal::Sample`].
 ///
 /// ```
 /// # fn main() -> Result<(), straightener::Refusal> {
-/// use straightener::{move_line, Kernel};
+/// use straightener::{move_line, Border, Kernel};
 ///
-/// let (mut result, mut work) = ([0; 4], [0; 8]);
-/// assert!(move_line(Kernel::Keys, -2_048, &[0, 0, 16, 0], &mut result, &mut work)?);
+/// let (line, mut result, mut work) = ([0, 0, 16, 0], [0; 4], [0; 24]);
+/// assert!(move_line(Kernel::Keys, -2_048, Border::Wrapped, &line, &mut result, &mut work)?);
 /// assert_eq!(result, [-1, 9, 9, -1]);
+/// assert!(move_line(Kernel::Keys, -2_048, Border::Background(100), &line, &mut result, &mut work)?);
+/// assert_eq!(result, [-7, 9, 3, 49]);
+/// assert!(!move_line(Kernel::Keys, 4 * 4_096, Border::Background(100), &line, &mut result, &mut work)?);
+/// assert_eq!(result, [100; 4]);
 /// # Ok(())
 /// # }
 /// ```
 pub fn move_line(
     kernel: Kernel,
     d: i32,
+    border: Border,
     line: &[i32],
     result: &mut [i32],
     work: &mut [i32],
 ) -> Result<bool, Refusal> {
-    let answer = raw::move_line(line.len(), kernel as u32, d, line, result, work);
+    let (border, background) = border.numbers();
+    let answer = raw::move_line(line.len(), kernel as u32, d, border, background, line, result, work);
     accepted(answer.number, answer.row, answer.column)?;
     Ok(answer.count == 1)
 }

@@ -8,7 +8,7 @@ mod common;
 use common::calls::{LineCall, PictureCall};
 use common::numbers::Numbers;
 use common::{Answer, Implementation};
-use straightener::second::Setting;
+use straightener::second::{Border, Setting};
 
 for_both_implementations!(
     picture_buffers_one_place_too_short,
@@ -16,8 +16,8 @@ for_both_implementations!(
     output_buffers_one_place_too_short,
     longer_buffers_keep_their_later_places,
     samples_beyond_the_picture_are_not_judged,
-    lowest_number_first_on_a_picture,
-    lowest_number_first_on_a_line,
+    the_number_that_comes_first_on_a_picture,
+    the_number_that_comes_first_on_a_line,
     reading_judges_samples_before_the_point,
     first_bad_sample_in_row_order,
     sizes_at_their_edges,
@@ -29,13 +29,13 @@ type Spoil<Call> = fn(&mut Call);
 
 /// A picture call in which nothing is wrong.
 fn good_picture() -> PictureCall {
-    let setting = Setting { kernel: 2, cx: 1, cy: 1, a: 700, b: -900 };
+    let setting = Setting { kernel: 2, cx: 1, cy: 1, a: 700, b: -900, border: Border::Background(-50) };
     PictureCall::fitting((3, 2), setting, vec![1, 2, 3, 4, 5, 6])
 }
 
 /// A line call in which nothing is wrong.
 fn good_line() -> LineCall {
-    LineCall::fitting(2, 700, vec![1, 2, 3])
+    LineCall::fitting(2, 700, vec![1, 2, 3]).with_border(Border::Background(-50))
 }
 
 fn picture_buffers_one_place_too_short(implementation: &dyn Implementation) {
@@ -59,11 +59,12 @@ fn picture_buffers_one_place_too_short(implementation: &dyn Implementation) {
 fn line_buffers_one_place_too_short(implementation: &dyn Implementation) {
     let mut numbers = Numbers::seeded(2);
     for n in (1..=70).chain([1_023, 1_024]) {
-        let good = LineCall::fitting(n as u32 % 3, numbers.edgy(4_194_304), numbers.samples(n, 294_912));
+        let good = LineCall::fitting(n as u32 % 3, numbers.edgy(4_194_304), numbers.samples(n, 294_912))
+            .with_border(numbers.border());
         assert_eq!(good.run(implementation).answer.number, 0);
         let short_line = LineCall { line: good.line[1..].to_vec(), ..good.clone() };
         let short_result = LineCall { result_length: n - 1, ..good.clone() };
-        let short_work = LineCall { work_length: 2 * n - 1, ..good.clone() };
+        let short_work = LineCall { work_length: 6 * n - 1, ..good.clone() };
         for call in [short_line, short_result, short_work] {
             assert_eq!(call.run(implementation).answer, Answer::refused(2), "{call:?}");
         }
@@ -86,16 +87,19 @@ fn output_buffers_one_place_too_short(implementation: &dyn Implementation) {
 }
 
 fn longer_buffers_keep_their_later_places(implementation: &dyn Implementation) {
-    let exact = good_picture();
-    let longer = PictureCall {
-        picture: [&exact.picture[..], &[9, 9]].concat(),
-        result_length: exact.result_length + 7,
-        work_length: exact.work_length + 11,
-        ..exact.clone()
-    };
-    let (exact, longer) = (exact.run(implementation), longer.run(implementation));
-    assert_eq!((exact.answer.number, exact.answer), (0, longer.answer));
-    assert_eq!(exact.result[..6], longer.result[..6]);
+    for border in [Border::Wrapped, Border::Background(-50)] {
+        let mut exact = good_picture();
+        exact.setting.border = border;
+        let longer = PictureCall {
+            picture: [&exact.picture[..], &[9, 9]].concat(),
+            result_length: exact.result_length + 7,
+            work_length: exact.work_length + 11,
+            ..exact.clone()
+        };
+        let (exact, longer) = (exact.run(implementation), longer.run(implementation));
+        assert_eq!((exact.answer.number, exact.answer), (0, longer.answer));
+        assert_eq!(exact.result[..6], longer.result[..6]);
+    }
 
     let (mut greys, mut floats) = ([77; 6], [7.5; 6]);
     assert_eq!(implementation.greys_out((2, 2), &[128; 5], &mut greys), Answer::accepted(0));
@@ -113,13 +117,15 @@ fn samples_beyond_the_picture_are_not_judged(implementation: &dyn Implementation
     assert_eq!(implementation.summary((1, 1), &[0, i32::MAX]).0, Answer::accepted(0));
 }
 
-fn lowest_number_first_on_a_picture(implementation: &dyn Implementation) {
-    let spoils: [(u32, Spoil<PictureCall>); 6] = [
+// The numbers in the order 1, 2, 3, 4, 5, 12, 6, each with all that come after it.
+fn the_number_that_comes_first_on_a_picture(implementation: &dyn Implementation) {
+    let spoils: [(u32, Spoil<PictureCall>); 7] = [
         (6, |call| call.picture[4] = 32_768),
+        (12, |call| call.setting.border = Border::Background(-32_768)),
         (5, |call| call.setting.kernel = 3),
         (4, |call| call.setting.b = -4_097),
         (3, |call| call.setting.cy = 2),
-        (2, |call| call.work_length = 11),
+        (2, |call| call.work_length = 35),
         (1, |call| call.size.1 = 1_025),
     ];
     let mut call = good_picture();
@@ -130,12 +136,14 @@ fn lowest_number_first_on_a_picture(implementation: &dyn Implementation) {
     }
 }
 
-fn lowest_number_first_on_a_line(implementation: &dyn Implementation) {
-    let spoils: [(u32, Spoil<LineCall>); 5] = [
+// The numbers in the order 1, 2, 4, 5, 12, 6, each with all that come after it.
+fn the_number_that_comes_first_on_a_line(implementation: &dyn Implementation) {
+    let spoils: [(u32, Spoil<LineCall>); 6] = [
         (6, |call| call.line[2] = 294_913),
+        (12, |call| call.border = Border::Background(32_768)),
         (5, |call| call.kernel = 3),
         (4, |call| call.d = 4_194_305),
-        (2, |call| call.work_length = 5),
+        (2, |call| call.work_length = 17),
         (1, |call| call.n = 0),
     ];
     let mut call = good_line();
@@ -197,10 +205,12 @@ fn counts_are_by_definition(implementation: &dyn Implementation) {
         let kernel = numbers.below(3) as u32;
         let mut setting = numbers.setting(kernel, size.0, size.1);
         setting.a = numbers.one_of(&[setting.a, 1_024, 2_048, -512]);
-        let lies_between =
-            |shear: i32, place: usize, centre: usize| shear * (place as i32 - centre as i32) % 4_096 != 0;
-        let rows = (0..size.1).filter(|&y| lies_between(setting.a, y, setting.cy)).count();
-        let columns = (0..size.0).filter(|&x| lies_between(setting.b, x, setting.cx)).count();
+        let lies_between = |length: usize, shear: i32, place: usize, centre: usize| {
+            let d = shear * (place as i32 - centre as i32);
+            d % 4_096 != 0 && (setting.border == Border::Wrapped || d.abs() < 4_096 * length as i32)
+        };
+        let rows = (0..size.1).filter(|&y| lies_between(size.0, setting.a, y, setting.cy)).count();
+        let columns = (0..size.0).filter(|&x| lies_between(size.1, setting.b, x, setting.cx)).count();
         let call = PictureCall::fitting(size, setting, numbers.samples(size.0 * size.1, 32_767));
         assert_eq!(
             call.run(implementation).answer,

@@ -6,7 +6,7 @@ mod common;
 use common::calls::{LineCall, Outcome, PictureCall};
 use common::numbers::Numbers;
 use common::{Implementation, Library, Second};
-use straightener::second::Setting;
+use straightener::second::{Border, Setting};
 
 /// Runs a picture call on both, and answers the outcome that they share.
 fn agreed_picture(call: &PictureCall) -> Outcome {
@@ -55,8 +55,8 @@ fn sizes_about_blocks_of_lines_and_long_sides() {
     let sizes =
         [(1, 1_024), (1_024, 1), (2, 1_023), (1_023, 3), (5, 257), (31, 33), (64, 64), (63, 65), (130, 17)];
     for (width, height) in sizes {
-        for kernel in 0..3 {
-            let setting = numbers.setting(kernel, width, height);
+        for turn in 0..6 {
+            let setting = numbers.setting(turn % 3, width, height);
             let samples = numbers.samples(width * height, 32_767);
             let outcome = agreed_picture(&PictureCall::fitting((width, height), setting, samples));
             assert_eq!(outcome.answer.number, 0);
@@ -68,12 +68,16 @@ fn sizes_about_blocks_of_lines_and_long_sides() {
 fn pictures_of_640_by_480_and_1024_by_1024() {
     let mut numbers = Numbers::seeded(23);
     for (width, height) in [(640, 480), (1_024, 1_024)] {
-        for kernel in 0..3 {
-            let centre = Setting { kernel, cx: width / 2, cy: height / 2, a: 0, b: 0 };
-            let (_, setting) = straightener::second::with_step(centre, [80, -1_697, 333][kernel as usize]);
-            let samples = (0..width * height).map(|_| numbers.within(32_767)).collect();
-            let outcome = agreed_picture(&PictureCall::fitting((width, height), setting, samples));
-            assert!(outcome.answer.count > 1_500, "{:?}", outcome.answer);
+        let samples: Vec<i32> = (0..width * height).map(|_| numbers.within(32_767)).collect();
+        for (kernel, step) in [(0, 80), (1, -1_697), (2, 333)] {
+            let centred = Setting::default().with_kernel(kernel).with_centre(width / 2, height / 2);
+            let (_, setting) = straightener::second::with_step(centred, step);
+            for border in [Border::Wrapped, Border::Background(numbers.edgy(32_767))] {
+                let setting = setting.with_border(border);
+                let outcome =
+                    agreed_picture(&PictureCall::fitting((width, height), setting, samples.clone()));
+                assert!(outcome.answer.count > 1_500, "{:?}", outcome.answer);
+            }
         }
     }
 }
@@ -89,23 +93,26 @@ fn the_last_of_a_million_samples_is_judged() {
 
 #[test]
 fn hostile_picture_calls() {
-    let (mut numbers, mut seen) = (Numbers::seeded(24), [0; 7]);
+    let (mut numbers, mut seen) = (Numbers::seeded(24), [0; 13]);
     for _ in 0..12_000 {
         seen[agreed_picture(&PictureCall::hostile(&mut numbers)).answer.number as usize] += 1;
     }
-    assert!(seen.iter().all(|&times| times > 150), "each number from 0 to 6 is to come up: {seen:?}");
+    assert!(
+        [0, 1, 2, 3, 4, 5, 6, 12].iter().all(|&number| seen[number] > 150),
+        "each number is to come up: {seen:?}"
+    );
 }
 
 #[test]
 fn hostile_line_calls() {
-    let (mut numbers, mut seen) = (Numbers::seeded(25), [0; 7]);
+    let (mut numbers, mut seen) = (Numbers::seeded(25), [0; 13]);
     for _ in 0..20_000 {
         let call = LineCall::hostile(&mut numbers);
         let outcome = call.run(&Library);
         assert_eq!(outcome, call.run(&Second), "{call:?}");
         seen[outcome.answer.number as usize] += 1;
     }
-    assert!([0, 1, 2, 4, 5, 6].iter().all(|&number| seen[number] > 300), "{seen:?}");
+    assert!([0, 1, 2, 4, 5, 6, 12].iter().all(|&number| seen[number] > 300), "{seen:?}");
     assert_eq!(seen[3], 0, "a line has no centre");
 }
 
@@ -114,8 +121,12 @@ fn lines_of_every_length() {
     let mut numbers = Numbers::seeded(26);
     for n in 1..=1_024 {
         for kernel in 0..3 {
-            let call = LineCall::fitting(kernel, numbers.edgy(4_194_304), numbers.samples(n, 294_912));
-            assert_eq!(call.run(&Library), call.run(&Second), "{call:?}");
+            for border in [Border::Wrapped, Border::Background(numbers.edgy(32_767))] {
+                let range = numbers.one_of(&[4_194_304, 4_096 * n as i32]);
+                let (d, line) = (numbers.edgy(range), numbers.samples(n, 294_912));
+                let call = LineCall::fitting(kernel, d, line).with_border(border);
+                assert_eq!(call.run(&Library), call.run(&Second), "{call:?}");
+            }
         }
     }
 }
@@ -124,7 +135,8 @@ fn lines_of_every_length() {
 fn lines_at_every_fraction() {
     let mut numbers = Numbers::seeded(27);
     for d in -4_096_i32..=4_096 {
-        let call = LineCall::fitting(d.unsigned_abs() % 3, d, numbers.samples(7, 294_912));
+        let (line, border) = (numbers.samples(7, 294_912), numbers.border());
+        let call = LineCall::fitting(d.unsigned_abs() % 3, d, line).with_border(border);
         assert_eq!(call.run(&Library), call.run(&Second), "{call:?}");
     }
 }
@@ -140,6 +152,7 @@ fn steps_and_changes_of_setting() {
             cy: usize::MAX - numbers.bits() as usize,
             a: numbers.bits() as i32,
             b: numbers.bits() as i32,
+            border: numbers.one_of(&[Border::Wrapped, Border::Background(t.wrapping_mul(40_503))]),
         };
         assert_eq!(Library.with_step(setting, t), Second.with_step(setting, t), "{setting:?} at {t}");
     }

@@ -4,7 +4,7 @@ mod common;
 
 use common::calls::{LineCall, PictureCall};
 use common::{Answer, Implementation};
-use straightener::second::Setting;
+use straightener::second::{Border, Setting};
 
 for_both_implementations!(lines, pictures, steps, levelling, line_format, ranges);
 
@@ -35,7 +35,7 @@ fn lines(implementation: &dyn Implementation) {
 }
 
 fn pictures(implementation: &dyn Implementation) {
-    let turned = Setting { kernel: 1, cx: 1, cy: 1, a: -4_096, b: 4_096 };
+    let turned = Setting { kernel: 1, cx: 1, cy: 1, a: -4_096, b: 4_096, ..Setting::default() };
     let outcome = PictureCall::fitting((3, 3), turned, (1..10).collect()).run(implementation);
     assert_eq!((outcome.answer, outcome.result), (Answer::accepted(0), vec![7, 4, 1, 8, 5, 2, 9, 6, 3]));
 
@@ -48,7 +48,7 @@ fn steps(implementation: &dyn Implementation) {
     let table = [(0, 0), (1, 2), (1_000, 1_887), (1_697, 2_897), (-1, -2), (-1_697, -2_897)];
     assert!(table.iter().all(|&(t, value)| implementation.sine(t) == (0, value)));
     assert!([1_698, -1_698, i32::MAX, i32::MIN].iter().all(|&t| implementation.sine(t) == (4, 0)));
-    let setting = Setting { kernel: 9, cx: 8, cy: 7, a: 6, b: 5 };
+    let setting = Setting { kernel: 9, cx: 8, cy: 7, a: 6, b: 5, border: Border::Background(-4) };
     assert_eq!(implementation.with_step(setting, 1_000), (0, Setting { a: -1_000, b: 1_887, ..setting }));
     assert_eq!(implementation.with_step(setting, 1_698), (4, setting));
 }

@@ -66,8 +66,36 @@ mod tool {
     }
 
     #[test]
+    fn the_close_picture_comes_under_both_borders() {
+        let close = pgm("crop 10 14 44 36", &example("screen.pgm")).expect("a part");
+        assert!(close == example("close.pgm"));
+        assert!(pgm("straighten spline 150", &close).expect("a picture") == example("wrapped.pgm"));
+        let on_background = pgm("straighten spline 150 background 70", &close).expect("a picture");
+        assert!(on_background == example("corners.pgm"));
+    }
+
+    #[test]
+    fn corners_on_background_have_its_grey() {
+        let screen = example("screen.pgm");
+        // A step of 1,000 is 27.4 degrees: each corner comes from beyond the picture.
+        let straightened = |words: &str| pgm(words, &screen).expect("a picture");
+        let corners = |file: &[u8]| {
+            let greys = &file[file.len() - 64 * 64..];
+            [greys[0], greys[63], greys[63 * 64], greys[63 * 64 + 63]]
+        };
+        for grey in [0, 128, 255] {
+            let words = format!("straighten linear 1000 background {grey}");
+            assert_eq!(corners(&straightened(&words)), [grey; 4]);
+        }
+        assert_ne!(
+            straightened("straighten linear 1000"),
+            straightened("straighten linear 1000 background 70")
+        );
+    }
+
+    #[test]
     fn the_png_pictures_are_those_of_the_pgm_files() {
-        for name in ["screen", "level"] {
+        for name in ["screen", "level", "close", "wrapped", "corners"] {
             let png = pgm("png", &example(&format!("{name}.pgm"))).expect("a picture");
             assert!(png == example(&format!("{name}.png")));
         }
@@ -85,6 +113,17 @@ mod tool {
         assert!(complaint("straighten cubic 80", &example("screen.pgm")).contains("linear, keys or spline"));
         assert!(complaint("straighten keys 1698", &example("screen.pgm")).contains("-1,697 to 1,697"));
         assert!(complaint("straighten keys 80", b"P3").contains("PGM"));
+        for part in ["crop 64 0 1 1", "crop 60 0 5 1", "crop 0 0 64 0", "crop 0 1 64 64"] {
+            assert!(complaint(part, &example("screen.pgm")).contains("64 by 64"));
+        }
+        assert!(complaint("crop 0 -1 2 2", &example("screen.pgm")).contains("from 0 on"));
+        assert!(complaint("straighten keys 80 background", b"").contains("needs a grey from 0 to 255"));
+        assert!(complaint("straighten keys 80 black", b"").contains("background GREY"));
+        assert!(complaint("straighten keys 80 background 7 7", b"").contains("background GREY"));
+        assert!(
+            complaint("straighten keys 80 background 256", b"").contains("256 is not a grey from 0 to 255")
+        );
+        assert!(complaint("straighten keys 80 background -1", b"").contains("-1 is not a grey from 0 to 255"));
         assert!(complaint("picture", b"0900000000\n").contains("number 9"));
         assert!(complaint("level 0 0 5 50", b"").contains("45 degrees"));
         assert!(complaint("line keys 80", b"P2 65 64 255").contains("PGM file ends too early"));

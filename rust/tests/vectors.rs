@@ -2,16 +2,22 @@
 
 mod common;
 
-use common::calls::{LineCall, PictureCall};
-use common::files::{cases, float_bits, number, numbers, value, vectors};
+use common::calls::{untouched_from, LineCall, Outcome, PictureCall};
+use common::files::{border, cases, float_bits, fnv, list, number, numbers, value, vectors};
 use common::{Answer, Implementation};
+use straightener::exact::{self, Whole};
 use straightener::second::{self, Setting};
 
 for_both_implementations!(
     lines,
+    lines_on_background,
     line_refusals,
+    lines_in_both_borders,
     pictures,
+    pictures_on_background,
     picture_refusals,
+    pictures_in_both_borders,
+    exact_pictures_in_both_borders,
     steps,
     settings,
     levels,
@@ -30,7 +36,25 @@ fn setting(words: &[String]) -> Setting {
         cy: number(&words[2]),
         a: number(&words[3]),
         b: number(&words[4]),
+        ..Setting::default()
     }
+}
+
+/// The setting of `key=value` words: kernel, cx, cy, A, B, border.
+fn named_setting(words: &[String]) -> Setting {
+    Setting {
+        kernel: number(value(words, "kernel")),
+        cx: number(value(words, "cx")),
+        cy: number(value(words, "cy")),
+        a: number(value(words, "A")),
+        b: number(value(words, "B")),
+        border: border(value(words, "border")),
+    }
+}
+
+/// The size of `key=value` words: W, H.
+fn named_size(words: &[String]) -> (usize, usize) {
+    (number(value(words, "W")), number(value(words, "H")))
 }
 
 /// Samples that are all 0 but for the entries `place:value;..`.
@@ -55,6 +79,18 @@ fn lines(implementation: &dyn Implementation) {
     }
 }
 
+fn lines_on_background(implementation: &dyn Implementation) {
+    for (input, moved) in vectors("lines_background.txt", 500) {
+        let (kernel, d) = (number(&input[0]), number::<i32>(&input[1]));
+        let line: Vec<i32> = numbers(&input[4..]);
+        assert_eq!(line.len(), number::<usize>(&input[3]));
+        let is_near = d.unsigned_abs() < 4_096 * line.len() as u32;
+        let outcome = LineCall::fitting(kernel, d, line).with_border(border(&input[2])).run(implementation);
+        assert_eq!(outcome.answer, Answer::accepted(u32::from(d % 4_096 != 0 && is_near)), "{input:?}");
+        assert_eq!(outcome.result, numbers::<i32>(&moved), "{input:?}");
+    }
+}
+
 #[test]
 fn coefficients_of_the_second_implementation() {
     for (input, coefficients) in vectors("coefficients.txt", 250) {
@@ -64,19 +100,54 @@ fn coefficients_of_the_second_implementation() {
 }
 
 fn line_refusals(implementation: &dyn Implementation) {
-    for (input, answer) in vectors("line_refusals.txt", 250) {
+    for (input, answer) in vectors("line_refusals.txt", 207) {
         let call = LineCall {
             n: number(value(&input, "N")),
             kernel: number(value(&input, "kernel")),
             d: number(value(&input, "d")),
+            border: border(value(&input, "border")),
             line: spoilt(number(value(&input, "line")), value(&input, "bad")),
             result_length: number(value(&input, "result")),
             work_length: number(value(&input, "work")),
         };
-        let outcome = call.run(implementation);
-        let counted = u32::from(outcome.answer.number == 0 && call.d % 4_096 != 0);
+        let answered = call.run(implementation).answer;
+        let counted =
+            u32::from(answered.number == 0 && second::interpolated(call.border, call.n, call.d.into()));
         let expected = Answer::of(number(&answer[0]), number(&answer[1]), number(&answer[2]), counted);
-        assert_eq!(outcome.answer, expected, "{input:?}");
+        assert_eq!(answered, expected, "{input:?}");
+    }
+}
+
+/// Holds an outcome to `number= row= column= count= result= work_zero=`, where -7 is a place left
+/// untouched and a long result stands as its hash; an accepted call writes so many places of the result.
+fn assert_recorded(outcome: &Outcome, places: usize, words: &[String]) {
+    let figure = |key: &str| number::<usize>(value(words, key));
+    let answer = (figure("number") as u32, figure("row"), figure("column"), figure("count") as u32);
+    assert_eq!(outcome.answer, Answer::of(answer.0, answer.1, answer.2, answer.3));
+    let written = if answer.0 == 0 { places } else { 0 };
+    assert!(untouched_from(written, &outcome.result));
+    let mut result = outcome.result.clone();
+    result[written..].fill(-7);
+    match value(words, "result").strip_prefix("fnv:") {
+        Some(hash) => assert_eq!(format!("{:016X}", fnv(&result)), hash),
+        None => assert_eq!(result, list(value(words, "result"))),
+    }
+    let zeros = outcome.work.iter().take_while(|&&place| place == 0).count();
+    assert_eq!(zeros, figure("work_zero"));
+}
+
+fn lines_in_both_borders(implementation: &dyn Implementation) {
+    for (input, answer) in vectors("border_lines.txt", 259) {
+        let call = LineCall {
+            n: number(value(&input, "N")),
+            kernel: number(value(&input, "kernel")),
+            d: number(value(&input, "d")),
+            border: border(value(&input, "border")),
+            line: list(value(&input, "line")),
+            result_length: number(value(&input, "result_len")),
+            work_length: number(value(&input, "work_len")),
+        };
+        assert_recorded(&call.run(implementation), call.n, &answer);
     }
 }
 
@@ -90,17 +161,22 @@ fn pictures(implementation: &dyn Implementation) {
     }
 }
 
+fn pictures_on_background(implementation: &dyn Implementation) {
+    for (input, answer) in vectors("pictures_background.txt", 210) {
+        let size = (number(&input[6]), number(&input[7]));
+        let setting = setting(&input).with_border(border(&input[5]));
+        let call = PictureCall::fitting(size, setting, numbers(&input[8..]));
+        let outcome = call.run(implementation);
+        assert_eq!(outcome.answer, Answer::accepted(number(&answer[0])), "{call:?}");
+        assert_eq!(outcome.result, numbers::<i32>(&answer[1..]), "{call:?}");
+    }
+}
+
 fn picture_refusals(implementation: &dyn Implementation) {
-    for (input, answer) in vectors("picture_refusals.txt", 348) {
+    for (input, answer) in vectors("picture_refusals.txt", 300) {
         let call = PictureCall {
-            size: (number(value(&input, "W")), number(value(&input, "H"))),
-            setting: Setting {
-                kernel: number(value(&input, "kernel")),
-                cx: number(value(&input, "cx")),
-                cy: number(value(&input, "cy")),
-                a: number(value(&input, "A")),
-                b: number(value(&input, "B")),
-            },
+            size: named_size(&input),
+            setting: named_setting(&input),
             picture: spoilt(number(value(&input, "pic")), value(&input, "bad")),
             result_length: number(value(&input, "result")),
             work_length: number(value(&input, "work")),
@@ -108,6 +184,35 @@ fn picture_refusals(implementation: &dyn Implementation) {
         let [number_, row, column, count]: [usize; 4] = numbers(&answer).try_into().expect("four figures");
         let expected = Answer::of(number_ as u32, row, column, count as u32);
         assert_eq!(call.run(implementation).answer, expected, "{input:?}");
+    }
+}
+
+fn pictures_in_both_borders(implementation: &dyn Implementation) {
+    for (input, answer) in vectors("border_pictures.txt", 262) {
+        let call = PictureCall {
+            size: named_size(&input),
+            setting: named_setting(&input),
+            picture: list(value(&input, "picture")),
+            result_length: number(value(&input, "result_len")),
+            work_length: number(value(&input, "work_len")),
+        };
+        assert_recorded(&call.run(implementation), call.size.0.wrapping_mul(call.size.1), &answer);
+    }
+}
+
+fn exact_pictures_in_both_borders(implementation: &dyn Implementation) {
+    for (input, answer) in vectors("border_exact.txt", 24) {
+        let (size, setting) = (named_size(&input), named_setting(&input));
+        let call = PictureCall::fitting(size, setting, list(value(&input, "picture")));
+        assert_eq!(call.run(implementation).result, list(value(&answer, "result")), "{input:?}");
+        let exact = exact::picture(size.0, size.1, setting, &call.picture);
+        let recorded: Vec<&str> = value(&answer, "exact").split(',').collect();
+        assert_eq!(recorded.len(), exact.numbers.len());
+        for (fraction, ours) in recorded.into_iter().zip(&exact.numbers) {
+            let (p, q) = fraction.split_once('/').unwrap_or((fraction, "1"));
+            let (p, q): (Whole, Whole) = (number(p), number(q));
+            assert_eq!(ours.product(&q), exact.over.product(&p), "{fraction} of {input:?}");
+        }
     }
 }
 

@@ -4,13 +4,14 @@
 use std::collections::HashSet;
 use straightener::{
     answer_line, floats_out, greys_out, level, line_work_places, move_line, reading, sine, straighten,
-    straightened, summary, work_places, Kernel, Refusal, Setting,
+    straightened, summary, work_places, Border, Kernel, Refusal, Setting,
 };
 
 #[test]
 fn a_change_keeps_the_rest_of_the_setting() {
     let setting = Setting::new().with_kernel(Kernel::Spline).with_centre(3, 4).with_shears(5, 6);
     assert_eq!((setting.kernel(), setting.centre(), setting.shears()), (Kernel::Spline, (3, 4), (5, 6)));
+    assert_eq!(setting.border(), Border::Wrapped);
     let keys = setting.with_kernel(Kernel::Keys);
     assert_eq!((keys.kernel(), keys.centre(), keys.shears()), (Kernel::Keys, (3, 4), (5, 6)));
     let linear = keys.with_kernel(Kernel::Linear);
@@ -30,8 +31,31 @@ fn a_change_keeps_the_rest_of_the_setting() {
 }
 
 #[test]
+fn every_change_keeps_the_border() {
+    let plain = Setting::new().with_kernel(Kernel::Keys).with_centre(3, 4).with_shears(5, 6);
+    for border in
+        [Border::Wrapped, Border::Background(0), Border::Background(-7), Border::Background(i32::MIN)]
+    {
+        let setting = plain.with_border(border);
+        assert_eq!((setting.kernel(), setting.centre(), setting.shears()), (Kernel::Keys, (3, 4), (5, 6)));
+        let stepped = setting.with_step(80).expect("a step within its range");
+        for changed in [
+            setting,
+            setting.with_kernel(Kernel::Spline),
+            setting.with_centre(9, 8),
+            setting.with_shears(-1, -2),
+            stepped,
+        ] {
+            assert_eq!(changed.border(), border);
+        }
+        assert_eq!(setting.with_border(Border::Wrapped), plain);
+    }
+    assert_eq!(Border::default(), Border::Wrapped);
+}
+
+#[test]
 fn every_call_tells_its_refusals() {
-    let (mut result, mut work) = ([0; 4], [0; 8]);
+    let (mut result, mut work) = ([0; 4], [0; 24]);
     let setting = Setting::new();
     let mut call = |size: (usize, usize), setting, picture: &[i32]| {
         straighten(size.0, size.1, setting, picture, &mut result, &mut work)
@@ -41,11 +65,21 @@ fn every_call_tells_its_refusals() {
     assert_eq!(call((2, 2), setting, &[1, 2, 3]), Err(Refusal::Buffer));
     assert_eq!(call((2, 2), setting.with_centre(2, 0), &[1, 2, 3, 4]), Err(Refusal::Centre));
     assert_eq!(call((2, 2), setting.with_shears(0, 4_097), &[1, 2, 3, 4]), Err(Refusal::Shear));
+    let bright = setting.with_border(Border::Background(32_768));
+    assert_eq!(call((2, 2), bright, &[1, 2, 3, 32_768]), Err(Refusal::Background));
     assert_eq!(call((2, 2), setting, &[1, 2, 3, 32_768]), Err(Refusal::Sample { row: 1, column: 1 }));
+    let moved = |d: i32, border: Border, line: &[i32]| {
+        let (mut result, mut work) = (vec![0; line.len()], vec![0; line_work_places(line.len())]);
+        move_line(Kernel::Keys, d, border, line, &mut result, &mut work)
+    };
     let bad = Err(Refusal::Sample { row: 0, column: 2 });
-    assert_eq!(move_line(Kernel::Keys, 1, &[0, 0, 300_000], &mut [0; 3], &mut [0; 6]), bad);
-    assert_eq!(move_line(Kernel::Keys, 1, &[], &mut [], &mut []), Err(Refusal::Size));
-    assert_eq!(move_line(Kernel::Keys, 4_096, &[1, 2], &mut [0; 2], &mut [0; 4]), Ok(false));
+    assert_eq!(moved(1, Border::Wrapped, &[0, 0, 300_000]), bad);
+    assert_eq!(moved(1, Border::Background(-32_768), &[0, 0, 300_000]), Err(Refusal::Background));
+    assert_eq!(moved(4_194_305, Border::Background(-32_768), &[0, 0, 300_000]), Err(Refusal::Shear));
+    assert_eq!(moved(1, Border::Wrapped, &[]), Err(Refusal::Size));
+    assert_eq!(moved(4_096, Border::Wrapped, &[1, 2]), Ok(false));
+    assert_eq!(moved(8_191, Border::Background(5), &[1, 2]), Ok(true));
+    assert_eq!(moved(8_193, Border::Background(5), &[1, 2]), Ok(false));
     assert_eq!(
         (sine(1_698), level(-1, 0, 5, 0), level(5, 0, 5, 0)),
         (Err(Refusal::Shear), Err(Refusal::Point), Err(Refusal::Slope))
@@ -63,22 +97,22 @@ fn convenience_takes_any_size_without_allocating_it() {
     }
     assert_eq!(straightened(1_024, 1_024, Setting::new(), &[1, 2]), Err(Refusal::Buffer));
     assert_eq!(straightened(2, 1, Setting::new(), &[1, 2, 3]), Ok((vec![1, 2], 0)));
-    assert_eq!((work_places(3, 5), line_work_places(7)), (20, 14));
+    assert_eq!((work_places(3, 5), line_work_places(7)), (60, 42));
 }
 
 #[test]
 fn refusals_have_their_numbers_and_a_message_each() {
     let mut messages = Vec::new();
-    for number in 1..=9 {
-        let refusal = Refusal::from_number(number, 3, 5).expect("nine refusals");
+    for number in (1..=9).chain([12]) {
+        let refusal = Refusal::from_number(number, 3, 5).expect("ten refusals");
         assert_eq!(refusal.number(), number);
         messages.push(refusal.to_string());
     }
     assert!(messages[5].contains("row 3, column 5") && messages[5].contains("32,767"), "{}", messages[5]);
     assert!(messages.iter().all(|message| message.len() > 40 && !message.contains("  ")), "{messages:?}");
     let different: HashSet<&String> = messages.iter().collect();
-    assert_eq!(different.len(), 9, "no two refusals say the same: {messages:?}");
-    assert_eq!((Refusal::from_number(0, 0, 0), Refusal::from_number(10, 0, 0)), (None, None));
+    assert_eq!(different.len(), 10, "no two refusals say the same: {messages:?}");
+    assert!([0, 10, 11, 13, u32::MAX].iter().all(|&number| Refusal::from_number(number, 0, 0).is_none()));
 }
 
 #[test]

@@ -1,6 +1,6 @@
-// Whole numbers: remainders, the parts of a move as document 01 takes them, and neighbours in a cyclic line.
+// Whole numbers: remainders, the parts of a move as document 01 takes them, neighbours in a cyclic line, the lower and the higher of two.
 ghost use mathlib.Core.Path.{_≡_};
-ghost use Prim.Native.Nat.{_+_, _-_, _%_, _<_, _≤_};
+ghost use Prim.Native.Nat.{_+_, _-_, _%_, _<_, _≤_, min, max};
 ghost use lib.IntN.{pos, natAbs};
 ghost use lib.Signed.{_≤ℤ_};
 ghost use Rattle.arith.specs.Whole.{remainder};
@@ -62,4 +62,24 @@ pub fn prior(j: usize, n: usize) -> usize
         return n - 1;
     }
     j - 1
+}
+
+// The lower of two.
+pub fn least(a: usize, b: usize) -> usize
+    ensures { λ r. ⌜ r ≡ min a b ⌝ }
+{
+    if a < b {
+        return a;
+    }
+    b
+}
+
+// The higher of two.
+pub fn most(a: usize, b: usize) -> usize
+    ensures { λ r. ⌜ r ≡ max a b ⌝ }
+{
+    if a < b {
+        return b;
+    }
+    a
 }

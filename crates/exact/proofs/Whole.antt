@@ -5,9 +5,8 @@ use native.Mathlib.Omega.{arith}
 use lib.IntN.{ℤ, pos, _+ℤ_, _-ℤ_, _*ℤ_}
 use lib.Signed.{_<ℤ_, leZ-yes, ltZ-yes}
 use Rattle.arith.proofs.Bridge.{bridge, all1, all2}
-use Rattle.arith.proofs.Ring.{nlit, ring, reify, vars2, vars4, vars5}
+use Rattle.arith.proofs.Ring.{nlit, ring, reify, vars2, vars5}
 use Rattle.arith.proofs.Cert.{equal, _⊙_}
-use Rattle.arith.specs.Sum.{Σ}
 use Rattle.lists.specs.Line.{Line, wrap}
 use Rattle.lists.proofs.Cyclic.{wrap-every}
 use Rattle.arith.proofs.Within.{Within}
@@ -15,6 +14,7 @@ use Rattle.kernels.specs.Kernel.{Kernel, Linear, Keys, Spline, norm, D³, weigh
 use Rattle.arith.specs.Move.{fraction}
 use Rattle.lines.specs.Move.{first, mixed, moved}
 use Rattle.lines.proofs.Mixed.{mixed-grey}
+use Rattle.lines.proofs.Whole.{at-zero, weigh-at-zero}
 use Rattle.spline.proofs.Exact.{shifted}
 use Rattle.exact.specs.ExactLine.{ExactLine, Weighed}
 use Rattle.exact.proofs.ExactLine.{weighed-line, weighed-over, is-weighed, Same, exact-line-only}
@@ -48,26 +48,6 @@ grey-line κ N d g x h grey =
         }
 
 -- ---- a line that moves by whole places: each place takes the one that lies q places on
-at-zero : (κ : Kernel) (y : Line) → ℤ
-at-zero Linear y = y 1
-at-zero Keys y = pos 2 *ℤ y 1
-at-zero Spline y = y 0 +ℤ pos 4 *ℤ y 1 +ℤ y 2
-
-weigh-at-zero : (κ : Kernel) (y : Line) → weigh κ (pos 0) y ≡ pos D³ *ℤ at-zero κ y
-unfolding weigh Σ at-zero
-weigh-at-zero Linear y = sum (y 0) (y 1) (y 2) (y 3)
-  where
-    sum : (a b c d : ℤ) → pos 0 +ℤ pos 0 *ℤ a +ℤ pos D³ *ℤ b +ℤ pos 0 *ℤ c +ℤ pos 0 *ℤ d ≡ pos D³ *ℤ b
-    sum = vars4 _ (simp reify (λ ρ. ring tt))
-weigh-at-zero Keys y = sum (y 0) (y 1) (y 2) (y 3)
-  where
-    sum : (a b c d : ℤ) → pos 0 +ℤ pos 0 *ℤ a +ℤ pos (2 * D³) *ℤ b +ℤ pos 0 *ℤ c +ℤ pos 0 *ℤ d ≡ pos D³ *ℤ (pos 2 *ℤ b)
-    sum = vars4 _ (simp reify (λ ρ. ring tt))
-weigh-at-zero Spline y = sum (y 0) (y 1) (y 2) (y 3)
-  where
-    sum : (a b c d : ℤ) → pos 0 +ℤ pos D³ *ℤ a +ℤ pos (4 * D³) *ℤ b +ℤ pos D³ *ℤ c +ℤ pos 0 *ℤ d ≡ pos D³ *ℤ (a +ℤ pos 4 *ℤ b +ℤ c)
-    sum = vars4 _ (simp reify (λ ρ. ring tt))
-
 taken : (κ : Kernel) (N : ℕ) (S : Line) (q : ℤ) (Y : Line) (R : ℤ) → Weighed κ N S q Y R → (o : ℕ)
     → at-zero κ (λ i. Y (o + i)) *ℤ q ≡ pos (norm κ) *ℤ wrap N S (o + 1) *ℤ R
 unfolding at-zero
@@ -117,17 +97,3 @@ whole-moved {κ} {N} {d} {x} {S} {W} {E} {q} {Z} h small hq whole same a =
     only Linear = all2 _ (simp bridge (omega arith))
     only Keys = all2 _ (simp bridge (omega arith))
     only Spline = all2 _ (simp bridge (omega arith))
-
--- ---- so a moved line is its own grey, or its own places
-module _ {N : ℕ} {x : Line} (h : 0 < N) (small : (k : ℕ) → k < N → Within (pos 294912) (x k)) where
-  moved-as : {κ : Kernel} {d : ℤ} {W : Line} → ExactLine κ N d x (pos 1) W (pos 1) → (k : ℕ) → k < N → moved κ N d x k ≡ W k
-  moved-as {κ} {d} {W} whole k l = once (moved κ N d x k) (W k) (whole-moved h small (ltZ-yes tt) whole (record { place = λ k l. refl }) whole .place k l)
-    where
-      once : (x y : ℤ) → x *ℤ pos 1 ≡ y *ℤ pos 1 → x ≡ y
-      once = all2 _ (simp bridge (omega arith))
-
-  pub moved-grey : (κ : Kernel) (d g : ℤ) → ((k : ℕ) → k < N → x k ≡ g) → (k : ℕ) → k < N → moved κ N d x k ≡ g
-  moved-grey κ d g grey = moved-as (grey-line κ N d g x h grey)
-
-  pub moved-whole : (κ : Kernel) (d : ℤ) → fraction d ≡ 0 → (k : ℕ) → k < N → moved κ N d x k ≡ wrap N x (first N d + k + 1)
-  moved-whole κ d e = moved-as (shift-line κ N d x (pos 1) h (ltZ-yes tt) e)

@@ -1,5 +1,7 @@
 -- Laws of the answers that C and Rust receive.
 --     Figures    what each case of an answer is laid out as
+--     Settings   a flat setting and its changes
 --     Examples   answers of the calls, laid out and computed
 pub mod Figures
+pub mod Settings
 pub mod Examples

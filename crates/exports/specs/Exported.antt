@@ -1,7 +1,8 @@
 -- The structs that C and Rust receive: what the call beneath answers, laid out by the definitions that give document 01's figures for each
 -- case. Assumes nothing.
-use Prim.Native.Nat.{ℕ}
+use Prim.Native.Nat.{ℕ, zero, suc}
 use mathlib.Core.Path.{_≡_}
+use lib.IntN.{ℤ}
 use lib.Ieee.{Float}
 use Rattle.refusals.specs.declared.Verdict.{Verdict}
 use Rattle.refusals.specs.Judging as verdict
@@ -17,13 +18,34 @@ use Rattle.readings.specs.declared.Reading.{Reading}
 use Rattle.readings.specs.declared.Reading.the-variants.{Level, Under, Over}
 use Rattle.readings.specs.declared.ReadingAnswer as reading
 use Rattle.readings.specs.declared.SummaryAnswer as summary
+use Rattle.settings.specs.declared.Border.{Border}
+use Rattle.settings.specs.declared.Border.the-variants.{Wrapped, Background}
+use Rattle.settings.specs.declared.Setting.{Setting}
+use Rattle.steps.specs.declared.Change.{Change}
 use Rattle.hexlines.specs.declared.Written.{Written}
 use Rattle.hexlines.specs.Answered.{writtenNumber, writtenBytes}
+use Rattle.exports.specs.declared.FlatSetting.{FlatSetting}
+use Rattle.exports.specs.declared.FlatChange.{FlatChange}
 use Rattle.exports.specs.declared.Answer.{Answer}
 use Rattle.exports.specs.declared.Step.{Step}
 use Rattle.exports.specs.declared.ReadingAnswer.{ReadingAnswer}
 use Rattle.exports.specs.declared.SummaryAnswer.{SummaryAnswer}
 use Rattle.exports.specs.declared.LineAnswer.{LineAnswer}
+
+-- 0 wrapped, and any other number background of the value
+abbrev pub borderOf : ℕ → ℤ → Border
+borderOf zero background = Wrapped
+borderOf (suc n) background = Background background
+
+abbrev pub settingOf : FlatSetting → Setting
+settingOf s = record { kernel = s .kernel; cx = s .cx; cy = s .cy; a = s .a; b = s .b; border = borderOf (s .border) (s .background) }
+
+-- a changed setting, with the border's two fields as they stood in the one that was changed
+abbrev pub laidAs : FlatSetting → Setting → FlatSetting
+laidAs s c = record { kernel = c .kernel; cx = c .cx; cy = c .cy; a = c .a; b = c .b; border = s .border; background = s .background }
+
+abbrev pub ofChange : FlatSetting → Change → FlatChange
+ofChange s c = record { number = c .number; setting = laidAs s (c .setting) }
 
 -- a verdict alone interpolates no line
 abbrev pub ofVerdict : Verdict → Answer

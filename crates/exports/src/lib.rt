@@ -1,20 +1,21 @@
 // The public calls as C and Rust link them. A slice is a pointer and a length, a struct goes by value, and what the call beneath answers as
-// an enum is laid out flat. include/straightener.h says what each argument means, in which unit, and what each number says.
+// an enum, or takes as one, is laid out flat. include/straightener.h says what each argument means, in which unit, and what each number says.
 ghost use mathlib.Core.Path.{_≡_};
 ghost use Rattle.pictures.specs.Answer.{Answer as PictureStraightened};
 ghost use Rattle.lines.specs.Answer.{LineMoved};
-ghost use Rattle.settings.specs.Setting.{withKernel, withCentre, withShears};
+ghost use Rattle.settings.specs.Setting.{withKernel, withCentre, withShears, withBorder};
 ghost use Rattle.steps.specs.Step.{SineAnswer, changeOf};
 ghost use Rattle.steps.specs.Level.{LevelAnswer};
 ghost use Rattle.readings.specs.Sample.{greyOf};
 ghost use Rattle.readings.specs.Answers.{Out, FloatsOut, ReadingAt, SummaryOf};
 ghost use Rattle.hexlines.specs.Answered.{LineAnswered};
-ghost use Rattle.exports.specs.Exported.{Exported, ofVerdict, ofOutcome, ofLine, ofSine, ofLevelled, kindOf, greysOf, ofReading, ofSummary, ofWritten};
+ghost use Rattle.exports.specs.Exported.{Exported, borderOf, settingOf, laidAs, ofChange, ofVerdict, ofOutcome, ofLine, ofSine, ofLevelled, kindOf, greysOf, ofReading, ofSummary, ofWritten};
 use hexlines::Written;
 use lines::LineOutcome;
 use pictures::Outcome;
 use readings::Reading;
 use refusals::Verdict;
+use settings::Border;
 use settings::Setting;
 use steps::Change;
 use steps::Levelled;
@@ -27,6 +28,25 @@ pub struct Answer {
     pub row: usize,
     pub column: usize,
     pub count: u32,
+}
+
+// A setting: `border` is 0 wrapped, and any other number background of the sample value `background`.
+#[repr(C)]
+pub struct FlatSetting {
+    pub kernel: u32,
+    pub cx: usize,
+    pub cy: usize,
+    pub a: i32,
+    pub b: i32,
+    pub border: u32,
+    pub background: i32,
+}
+
+// A changed setting under 0, or the setting as it was under the refusal number.
+#[repr(C)]
+pub struct FlatChange {
+    pub number: u32,
+    pub setting: FlatSetting,
 }
 
 // 0 and a step or a shear, or the refusal number and 0.
@@ -61,6 +81,57 @@ pub struct SummaryAnswer {
 pub struct LineAnswer {
     pub number: u32,
     pub written: usize,
+}
+
+// ---- settings that come and go flat
+
+fn border_of(border: u32, background: i32) -> Border
+    ensures { λ r. ⌜ r ≡ borderOf border background ⌝ }
+{
+    if border == 0 {
+        return Border::Wrapped;
+    }
+    Border::Background(background)
+}
+
+fn setting_of(setting: FlatSetting) -> Setting
+    ensures { λ r. ⌜ r ≡ settingOf setting ⌝ }
+{
+    let border = border_of(setting.border, setting.background);
+    Setting {
+        kernel: setting.kernel,
+        cx: setting.cx,
+        cy: setting.cy,
+        a: setting.a,
+        b: setting.b,
+        border,
+    }
+}
+
+// A changed setting laid out flat, with the border's two fields as they were handed in: no change but `with_border` touches them.
+fn laid_as(setting: FlatSetting, changed: Setting) -> FlatSetting
+    ensures { λ r. ⌜ r ≡ laidAs setting changed ⌝ }
+{
+    FlatSetting {
+        kernel: changed.kernel,
+        cx: changed.cx,
+        cy: changed.cy,
+        a: changed.a,
+        b: changed.b,
+        border: setting.border,
+        background: setting.background,
+    }
+}
+
+fn of_change(setting: FlatSetting, change: Change) -> FlatChange
+    ensures { λ r. ⌜ r ≡ ofChange setting change ⌝ }
+{
+    let changed = change.setting;
+    let flat = laid_as(setting, changed);
+    FlatChange {
+        number: change.number,
+        setting: flat,
+    }
 }
 
 // ---- answers laid out flat
@@ -201,14 +272,14 @@ fn of_written(written: Written) -> LineAnswer
 pub extern "C" fn straightener_straighten(
     width: usize,
     height: usize,
-    setting: Setting,
+    setting: FlatSetting,
     picture: &[i32],
     result: &mut [i32],
     work: &mut [i32],
 ) -> Answer
-    ensures { λ r. ⌜ Exported ofOutcome (λ o. PictureStraightened width height setting (now (picture .entry)) (now (result .entry)) (now (work .entry)) o (now (result .exit)) (now (work .exit))) r ⌝ }
+    ensures { λ r. ⌜ Exported ofOutcome (λ o. PictureStraightened width height (settingOf setting) (now (picture .entry)) (now (result .entry)) (now (work .entry)) o (now (result .exit)) (now (work .exit))) r ⌝ }
 {
-    of_outcome(pictures::straighten(width, height, setting, picture, result, work))
+    of_outcome(pictures::straighten(width, height, setting_of(setting), picture, result, work))
 }
 
 // Moves one line.
@@ -217,45 +288,83 @@ pub extern "C" fn straightener_move_line(
     n: usize,
     kernel: u32,
     d: i32,
+    border: u32,
+    background: i32,
     line: &[i32],
     result: &mut [i32],
     work: &mut [i32],
 ) -> Answer
-    ensures { λ r. ⌜ Exported ofLine (LineMoved n kernel d (now (line .entry)) (now (result .entry)) (now (work .entry)) (now (result .exit)) (now (work .exit))) r ⌝ }
+    ensures { λ r. ⌜ Exported ofLine (LineMoved n kernel d (borderOf border background) (now (line .entry)) (now (result .entry)) (now (work .entry)) (now (result .exit)) (now (work .exit))) r ⌝ }
 {
-    of_line(lines::move_line(n, kernel, d, line, result, work))
+    of_line(lines::move_line(
+        n,
+        kernel,
+        d,
+        border_of(border, background),
+        line,
+        result,
+        work,
+    ))
 }
 
 // The setting with another kernel.
 #[no_mangle]
-pub extern "C" fn straightener_with_kernel(setting: Setting, kernel: u32) -> Setting
-    ensures { λ r. ⌜ r ≡ withKernel setting kernel ⌝ }
+pub extern "C" fn straightener_with_kernel(setting: FlatSetting, kernel: u32) -> FlatSetting
+    ensures { λ r. ⌜ r ≡ laidAs setting (withKernel (settingOf setting) kernel) ⌝ }
 {
-    setting.with_kernel(kernel)
+    let before = setting_of(setting);
+    laid_as(setting, before.with_kernel(kernel))
 }
 
 // The setting with the centre at column cx and row cy.
 #[no_mangle]
-pub extern "C" fn straightener_with_centre(setting: Setting, cx: usize, cy: usize) -> Setting
-    ensures { λ r. ⌜ r ≡ withCentre setting cx cy ⌝ }
+pub extern "C" fn straightener_with_centre(
+    setting: FlatSetting,
+    cx: usize,
+    cy: usize,
+) -> FlatSetting
+    ensures { λ r. ⌜ r ≡ laidAs setting (withCentre (settingOf setting) cx cy) ⌝ }
 {
-    setting.with_centre(cx, cy)
+    let before = setting_of(setting);
+    laid_as(setting, before.with_centre(cx, cy))
 }
 
 // The setting with the shears a and b, in 4,096ths.
 #[no_mangle]
-pub extern "C" fn straightener_with_shears(setting: Setting, a: i32, b: i32) -> Setting
-    ensures { λ r. ⌜ r ≡ withShears setting a b ⌝ }
+pub extern "C" fn straightener_with_shears(setting: FlatSetting, a: i32, b: i32) -> FlatSetting
+    ensures { λ r. ⌜ r ≡ laidAs setting (withShears (settingOf setting) a b) ⌝ }
 {
-    setting.with_shears(a, b)
+    let before = setting_of(setting);
+    laid_as(setting, before.with_shears(a, b))
+}
+
+// The setting with another border.
+#[no_mangle]
+pub extern "C" fn straightener_with_border(
+    setting: FlatSetting,
+    border: u32,
+    background: i32,
+) -> FlatSetting
+    ensures { λ r. ⌜ settingOf r ≡ withBorder (settingOf setting) (borderOf border background) ⌝ }
+    ensures { λ r. ⌜ (r .border ≡ border) × (r .background ≡ background) ⌝ }
+{
+    FlatSetting {
+        kernel: setting.kernel,
+        cx: setting.cx,
+        cy: setting.cy,
+        a: setting.a,
+        b: setting.b,
+        border,
+        background,
+    }
 }
 
 // The setting with the shears of step t.
 #[no_mangle]
-pub extern "C" fn straightener_with_step(setting: Setting, t: i32) -> Change
-    ensures { λ r. ⌜ r ≡ changeOf setting t ⌝ }
+pub extern "C" fn straightener_with_step(setting: FlatSetting, t: i32) -> FlatChange
+    ensures { λ r. ⌜ r ≡ ofChange setting (changeOf (settingOf setting) t) ⌝ }
 {
-    steps::with_step(setting, t)
+    of_change(setting, steps::with_step(setting_of(setting), t))
 }
 
 // S(t).

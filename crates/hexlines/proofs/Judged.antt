@@ -3,6 +3,7 @@ use Prim.Native.Nat.{ℕ, zero, suc, _+_, _*_, _≤_, _<_, max}
 use mathlib.Core.Bool.{Bool, true, false, _&&_, cond, true≢false}
 use mathlib.Core.List.{List, _++_, append-nil}
 use mathlib.Core.Path.{_≡_, refl, sym, ap, _∙_}
+use native.Mathlib.Nat.{mul-le-mul-left, mul-le-mul-right}
 use native.Mathlib.Omega.{arith}
 use borrow.Author.Tests.{leb-true, eqb-true, ne-eqb}
 use lib.Dec.{leb}
@@ -16,6 +17,7 @@ use Rattle.lists.specs.Line.{line}
 use Rattle.lists.specs.Tab.{tab}
 use Rattle.refusals.specs.declared.Verdict.the-variants as verdict
 use Rattle.refusals.specs.Judging.{whenAccepted}
+use Rattle.refusals.proofs.Tests.{size-good}
 use Rattle.passes.specs.Picture.{straighten}
 use Rattle.passes.specs.Count.{count}
 use Rattle.pictures.specs.Answer as answer
@@ -24,11 +26,11 @@ use Rattle.pictures.specs.declared.Outcome.{Outcome}
 use Rattle.pictures.specs.declared.Outcome.the-variants as outcome
 use Rattle.settings.specs.declared.Setting.{Setting}
 use Rattle.hexlines.specs.Answer.{settingIn, numberOf, countOf, straightenedOf, refusalText, acceptedText, judgedText, isAccepted, answerOf}
-use Rattle.hexlines.specs.Answered.{Accepted, workIn, writtenOf, LineAnswered}
+use Rattle.hexlines.specs.Answered.{Accepted, workIn, Roomy, writtenOf, LineAnswered}
 use Rattle.hexlines.specs.declared.Written.the-variants.{Bytes, Refused}
 use Rattle.hexlines.specs.Room.{fittedLength, Fitted}
 use Rattle.hexlines.specs.Line.{widthIn, heightIn, sizeIn, wellFormed, sampleAt, samplesIn}
-use Rattle.hexlines.proofs.Outcome.{verdict-accepted, straightened-length}
+use Rattle.hexlines.proofs.Outcome.{none, work-enough, verdict-accepted, straightened-length}
 use Rattle.hexlines.proofs.Text.{length-refusal, length-accepted}
 
 both : (a b : Bool) → (a && b) ≡ true → (a ≡ true) × (b ≡ true)
@@ -66,13 +68,13 @@ pub record Called (l : List ℕ) (w h : ℕ) (s : Setting) (picture result work 
   pub line : Accepted l w h s
   pub filled : picture ≡ tab (sampleAt l) (w * h)
   pub result-places : length result ≡ w * h
-  pub work-places : length work ≡ 4096
-  pub outcome : o ≡ outcomeOf (verdictOf w h s picture result work) (count w h (rowMoves s) (columnMoves s))
+  pub work-places : 12 * max w h ≤ length work
+  pub outcome : o ≡ outcomeOf (verdictOf w h s picture result work) (count (s .border) w h (rowMoves s) (columnMoves s))
   pub written : result′
       ≡ whenAccepted (verdictOf w h s picture result work)
-      (straighten (answer.kernelIn s) w h (rowMoves s) (columnMoves s) (take (w * h) picture) ++ drop (w * h) result)
+      (straighten (s .border) (answer.kernelIn s) w h (rowMoves s) (columnMoves s) (take (w * h) picture) ++ drop (w * h) result)
       result
-  pub cleared : work′ ≡ whenAccepted (verdictOf w h s picture result work) (replicate (4 * max w h) (pos 0) ++ drop (4 * max w h) work) work
+  pub cleared : work′ ≡ whenAccepted (verdictOf w h s picture result work) (replicate (12 * max w h) (pos 0) ++ drop (12 * max w h) work) work
 
 module _ {l : List ℕ} {w h : ℕ} {s : Setting} {picture result work result′ work′ : List ℤ} {o : Outcome} (c : Called l w h s picture result work result′ work′ o) where
   fine : Well l
@@ -81,10 +83,11 @@ module _ {l : List ℕ} {w h : ℕ} {s : Setting} {picture result work result′
   straighten-verdict : verdictOf w h s picture result work ≡ verdict.Accepted
   unfolding samplesIn
   straighten-verdict =
-      rw (c .line .setting, c .work-places, c .result-places, c .filled, c .line .width, c .line .height)
-      (verdict-accepted l (samplesIn l) (sizeIn l) (c .line .none) (omega (arith, tab-length (sampleAt l) (sizeIn l))) (omega arith) (samples-within l fine))
+      let room = rw (c .line .width, c .line .height) at (c .work-places) in
+      rw (c .line .setting, c .result-places, c .filled, c .line .width, c .line .height)
+      (verdict-accepted l (samplesIn l) (sizeIn l) (length work) (c .line .none) (omega (arith, tab-length (sampleAt l) (sizeIn l))) (omega arith) room (samples-within l fine))
 
-  says : o ≡ outcome.Straightened (count w h (rowMoves s) (columnMoves s))
+  says : o ≡ outcome.Straightened (count (s .border) w h (rowMoves s) (columnMoves s))
   says = c .outcome ∙ rw straighten-verdict refl
 
   pub samples-read : picture ≡ samplesIn l
@@ -103,7 +106,7 @@ module _ {l : List ℕ} {w h : ℕ} {s : Setting} {picture result work result′
   pub accepted-text : (n : ℕ) → o ≡ outcome.Straightened n → acceptedText n w h result′ ≡ judgedText 0 l
   unfolding judgedText countOf settingIn
   accepted-text n e =
-      let k : n ≡ count w h (rowMoves s) (columnMoves s) = cc (says, e) in
+      let k : n ≡ count (s .border) w h (rowMoves s) (columnMoves s) = cc (says, e) in
       rw (k, straightened-is, c .line .setting, c .line .width, c .line .height) refl
 
   -- the straightener does not refuse it
@@ -144,6 +147,25 @@ ill-line l e = rw e refl
 pub small : (l : List ℕ) (w h : ℕ) → wellFormed l ≡ true → w ≡ widthIn l → h ≡ heightIn l
     → (22 ≤ length l) × (w * h ≤ 4096) × (length l ≡ 22 + 2 * (w * h))
 small l w h e ew eh = let f = well l e in rw (ew, eh) (f .long, f .small, f .whole)
+
+-- the places that are enough: for every line, for one of up to 256 greys, and for one whose sides are up to 256
+module _ (l : List ℕ) (e : wellFormed l ≡ true) where
+  pub roomy-in : (p r w : ℕ) → p ≡ 4096 → r ≡ 4096 → w ≡ 12288 → Roomy l p r w
+  roomy-in p r w ep er ew = let f = well l e in rw (ep, er, ew) (f .small, f .small, work-enough l)
+
+  pub roomy-small : (p r w : ℕ) → p ≡ 256 → r ≡ 256 → w ≡ 3072 → length l ≤ 534 → Roomy l p r w
+  roomy-small p r w ep er ew h =
+      let f = well l e in
+      let few : sizeIn l ≤ 256 = omega (arith, f .whole) in
+      rw (ep, er, ew) (
+        few,
+        few,
+        λ z. let size = size-good (none l z .size) in
+            omega (arith, few, mul-le-mul-left (widthIn l) (size .1 .0), mul-le-mul-right (heightIn l) (size .0 .0)),
+      )
+
+  pub roomy-square : (p r w : ℕ) → p ≡ 4096 → r ≡ 4096 → w ≡ 3072 → max (widthIn l) (heightIn l) ≤ 256 → Roomy l p r w
+  roomy-square p r w ep er ew h = let f = well l e in rw (ep, er, ew) (f .small, f .small, λ z. omega arith)
 
 -- a line of more than 8,214 bytes is not well formed, and no answer is longer than 32,783 bytes
 pub long-ill : (l : List ℕ) → 8214 < length l → wellFormed l ≡ false

@@ -3,7 +3,7 @@
 use Prim.Native.Nat.{ℕ, suc, _*_, _≤_, _<_, max}
 use mathlib.Core.Bool.{Bool, true, false, cond}
 use mathlib.Core.List.{List}
-use mathlib.Core.Path.{_≡_, refl, sym, _∙_}
+use mathlib.Core.Path.{_≡_, refl, _∙_}
 use native.Mathlib.Omega.{arith}
 use native.Mathlib.Nat.{mul-comm}
 use borrow.Author.Tests.{le-ltb}
@@ -13,19 +13,19 @@ use lib.ListN.{length}
 use Rattle.arith.proofs.Laws.{natAbs-negℤ}
 use Rattle.lists.proofs.Table.{every, at}
 use Rattle.lists.specs.Line.{line}
+use Rattle.lines.specs.Border.{badBackground}
 use Rattle.passes.specs.Picture.{straighten}
 use Rattle.passes.proofs.Places.{length-pictured}
-use Rattle.refusals.specs.Tests.{badSize, badKernel, short, firstBad}
+use Rattle.refusals.specs.Tests.{badSize, badKernel, short}
 use Rattle.refusals.specs.declared.Verdict.the-variants.{Accepted}
 use Rattle.refusals.proofs.Tests.{size-good, beyond-good, good-beyond}
 use Rattle.refusals.proofs.First.{nothing-bad}
-use Rattle.settings.specs.Setting.{withShears}
 use Rattle.steps.specs.Table.{sines}
 use Rattle.steps.specs.declared.Change.{Change}
 use Rattle.steps.specs.Step.{entry, beyond, S, changeOf}
 use Rattle.pictures.specs.Judge.{range, tooShort, badCentre, badShears, judged}
 use Rattle.hexlines.specs.Answer.{changeIn, settingIn, numberOf, straightenedOf}
-use Rattle.hexlines.specs.Answered.{lowest}
+use Rattle.hexlines.specs.Answered.{lowest, workIn}
 use Rattle.hexlines.specs.Line.{kernelIn, stepIn, widthIn, heightIn, sizeIn}
 
 -- ---- a step within its range makes shears within theirs
@@ -89,23 +89,24 @@ module _ (l : List ℕ) where
   change-setting c e = rw (c, none e .step) refl
 
 -- ---- the straightener's verdict
--- the places lent are enough, whatever size is accepted
-enough : (W H p m : ℕ) → W * H ≤ p → W * H ≤ m → badSize W H ≡ false → tooShort W H p m 4096 ≡ false
+-- the places lent are enough
+enough : (W H p m k : ℕ) → W * H ≤ p → W * H ≤ m → 12 * max W H ≤ k → tooShort W H p m k ≡ false
 unfolding tooShort short
-enough W H p m hp hm e =
-    let size = size-good e in
-    let room : 4 * max W H ≤ 4096 = omega (arith, size .0 .1, size .1 .1) in
-    rw (le-ltb p (W * H) hp, le-ltb m (W * H) hm, le-ltb 4096 (4 * max W H) room) refl
+enough W H p m k hp hm hk = rw (le-ltb p (W * H) hp, le-ltb m (W * H) hm, le-ltb k (12 * max W H) hk) refl
 
-pub verdict-accepted : (l : List ℕ) (picture : List ℤ) (m : ℕ) → numberOf l ≡ 0 → sizeIn l ≤ length picture → sizeIn l ≤ m
+-- whatever size is accepted, 12,288 places are enough for work
+pub work-enough : (l : List ℕ) → numberOf l ≡ 0 → workIn l ≤ 12288
+work-enough l e = let size = size-good (none l e .size) in omega (arith, size .0 .1, size .1 .1)
+
+pub verdict-accepted : (l : List ℕ) (picture : List ℤ) (m k : ℕ) → numberOf l ≡ 0 → sizeIn l ≤ length picture → sizeIn l ≤ m → workIn l ≤ k
     → ((k : ℕ) → k < sizeIn l → natAbs (line picture k) ≤ 32767)
-    → judged (widthIn l) (heightIn l) (settingIn l) picture m 4096 ≡ Accepted
-unfolding judged settingIn
-verdict-accepted l picture m e hp hm within =
+    → judged (widthIn l) (heightIn l) (settingIn l) picture m k ≡ Accepted
+unfolding judged settingIn badBackground
+verdict-accepted l picture m k e hp hm hk within =
     let n = none l e in
     rw (
       n .size,
-      enough (widthIn l) (heightIn l) (length picture) m hp hm (n .size),
+      enough (widthIn l) (heightIn l) (length picture) m k hp hm hk,
       n .centre,
       shears-within l (n .step),
       n .kernel,

@@ -10,6 +10,7 @@ use Rattle.lists.specs.Line.{wrap}
 use Rattle.refusals.specs.Tests.{badSide, badSize, badKernel, beyondOf}
 use Rattle.kernels.specs.Kernel.{weigh}
 use Rattle.lines.specs.Move.{first, mixed, source, moved}
+use Rattle.lines.specs.Border.{bordered, gone, fractionIn}
 use Rattle.passes.specs.Picture.{picture, pictured, rows-moved, straighten}
 use Rattle.passes.specs.Count.{interpolated, count}
 use Rattle.steps.specs.Step.{entry, S}
@@ -55,5 +56,5 @@ answers =
     ∷ []
 
 pub lines-answered : map answerOf lines ≡ answers
-unfolding tab cat floor remainder round Σ fraction whole wrap weigh first mixed source moved picture pictured rows-moved straighten interpolated count beyondOf entry S badSide badSize badCentre badKernel isDigit allDigits digitValue valueFrom hexValue digitOf placesOf hexDigits signed16 word32 fieldAt wellFormed sampleAt samplesIn settingIn numberOf countOf straightenedOf refusalText samplesText acceptedText judgedText answerOf
+unfolding tab cat floor remainder round Σ fraction whole wrap weigh first mixed source moved bordered picture pictured rows-moved straighten gone fractionIn interpolated count beyondOf entry S badSide badSize badCentre badKernel isDigit allDigits digitValue valueFrom hexValue digitOf placesOf hexDigits signed16 word32 fieldAt wellFormed sampleAt samplesIn settingIn numberOf countOf straightenedOf refusalText samplesText acceptedText judgedText answerOf
 lines-answered = refl

@@ -10,6 +10,7 @@ use Rattle.lists.specs.Tab.{cat}
 use Rattle.kernels.specs.Kernel.{kernelOf}
 use Rattle.passes.specs.Picture.{shear, straighten}
 use Rattle.passes.specs.Count.{count}
+use Rattle.settings.specs.declared.Border.the-variants.{Wrapped}
 use Rattle.settings.specs.declared.Setting.{Setting}
 use Rattle.refusals.specs.Tests.{badSize, badKernel}
 use Rattle.steps.specs.Step.{beyond, S, changeOf}
@@ -18,13 +19,13 @@ use Rattle.pictures.specs.Judge.{badCentre}
 use Rattle.digits.specs.Digit.{hexDigits, word32}
 use Rattle.hexlines.specs.Line.{kernelIn, stepIn, widthIn, heightIn, cxIn, cyIn, wellFormed, samplesIn}
 
--- a setting of the line's kernel and centre, changed by its step: number 4 where the step is beyond its range
+-- a setting of the line's kernel and centre with wrapped edges, changed by its step: number 4 where the step is beyond its range
 unfoldable pub changeIn : List ℕ → Change
-changeIn line = changeOf (record { kernel = kernelIn line; cx = cxIn line; cy = cyIn line; a = pos 0; b = pos 0 }) (stepIn line)
+changeIn line = changeOf (record { kernel = kernelIn line; cx = cxIn line; cy = cyIn line; a = pos 0; b = pos 0; border = Wrapped }) (stepIn line)
 
 -- the setting that a line names: step t sets A = -t and B = S(t)
 unfoldable pub settingIn : List ℕ → Setting
-settingIn line = record { kernel = kernelIn line; cx = cxIn line; cy = cyIn line; a = negℤ (stepIn line); b = S (stepIn line) }
+settingIn line = record { kernel = kernelIn line; cx = cxIn line; cy = cyIn line; a = negℤ (stepIn line); b = S (stepIn line); border = Wrapped }
 
 -- the lowest number that applies to a well-formed line, 0 where none does
 unfoldable pub numberOf : List ℕ → ℕ
@@ -36,11 +37,11 @@ numberOf line =
 
 -- the lines interpolated, and the samples of the picture straightened
 unfoldable pub countOf : List ℕ → ℕ
-countOf line = count (widthIn line) (heightIn line) (shear (negℤ (stepIn line)) (cyIn line)) (shear (S (stepIn line)) (cxIn line))
+countOf line = count Wrapped (widthIn line) (heightIn line) (shear (negℤ (stepIn line)) (cyIn line)) (shear (S (stepIn line)) (cxIn line))
 
 unfoldable pub straightenedOf : List ℕ → List ℤ
 straightenedOf line =
-    straighten (kernelOf (kernelIn line)) (widthIn line) (heightIn line)
+    straighten Wrapped (kernelOf (kernelIn line)) (widthIn line) (heightIn line)
     (shear (negℤ (stepIn line)) (cyIn line)) (shear (S (stepIn line)) (cxIn line))
     (samplesIn line)
 

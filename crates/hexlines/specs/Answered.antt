@@ -1,5 +1,5 @@
 -- What answering a line leaves in the buffers that are lent for it, and what the call for one line answers. Assumes nothing.
-use Prim.Native.Nat.{ℕ, _*_, max}
+use Prim.Native.Nat.{ℕ, _*_, _≤_, max}
 use mathlib.Core.Path.{_≡_}
 use mathlib.Core.Bool.{true, cond}
 use mathlib.Core.List.{List, _++_}
@@ -34,7 +34,11 @@ pub record Accepted (line : List ℕ) (W H : ℕ) (s : Setting) : Type 0 where
 
 -- how many work places the picture of a line takes
 abbrev pub workIn : List ℕ → ℕ
-workIn line = 4 * max (widthIn line) (heightIn line)
+workIn line = 12 * max (widthIn line) (heightIn line)
+
+-- places enough for a line: for its samples, for those of its result, and for work where no number applies to it
+abbrev pub Roomy : List ℕ → ℕ → ℕ → ℕ → Type 0
+Roomy line picture result work = (sizeIn line ≤ picture) × (sizeIn line ≤ result) × (numberOf line ≡ 0 → workIn line ≤ work)
 
 -- an accepted line answered in just as many places as it has samples: they hold the samples and the picture straightened, and work is cleared
 pub record Straightened (line out : List ℕ) (work : List ℤ) (out′ : List ℕ) (picture′ result′ work′ : List ℤ) (r : ℕ) : Type 0 where

@@ -1,17 +1,18 @@
 // One line of the line program: read, judged and answered.
 ghost use mathlib.Core.Path.{_≡_};
 ghost use mathlib.Core.Bool.{true};
-ghost use Prim.Native.Nat.{ℕ, _+_, _*_, _<_, _≤_};
+ghost use Prim.Native.Nat.{ℕ, _+_, _*_, _<_, _≤_, max};
 ghost use lib.IntN.{pos};
 ghost use lib.ListN.{length};
 ghost use Rattle.lists.specs.Tab.{tab};
 ghost use Rattle.digits.specs.Digit.{isDigit, allDigits, digitValue, placesOf};
 ghost use Rattle.pictures.specs.Judge.{badCentre};
-ghost use Rattle.hexlines.specs.Line.{fieldAt, wellFormed, sampleAt};
-ghost use Rattle.hexlines.specs.Answer.{refusalText, acceptedText, changeIn};
+ghost use Rattle.hexlines.specs.Line.{fieldAt, wellFormed, sampleAt, widthIn, heightIn};
+ghost use Rattle.hexlines.specs.Answer.{refusalText, acceptedText, changeIn, answerOf};
 ghost use Rattle.hexlines.specs.Room.{Fitted, Front, pieceAt, headPlaces, samplePlaces, closed};
-ghost use Rattle.hexlines.specs.Answered.{lowest, Accepted, Straightened, Answered, LineAnswered};
+ghost use Rattle.hexlines.specs.Answered.{lowest, Roomy, Accepted, Straightened, Answered, LineAnswered};
 use pictures::Outcome;
+use settings::Border;
 use settings::Setting;
 use steps::Change;
 
@@ -41,7 +42,7 @@ fn well_formed(line: &[u8]) -> bool
     line.len() == 22 + 2 * n
 }
 
-// A setting of the line's kernel and centre, changed by its step.
+// A setting of the line's kernel and centre with wrapped edges, changed by its step.
 fn change_in(line: &[u8]) -> Change
     requires { ⌜ (22 ≤ length (now line)) × (allDigits (now line) ≡ true) ⌝ }
     ensures { λ r. ⌜ r ≡ changeIn (now (line .entry)) ⌝ }
@@ -57,6 +58,7 @@ fn change_in(line: &[u8]) -> Change
             cy,
             a: 0,
             b: 0,
+            border: Border::Wrapped,
         },
         t,
     )
@@ -176,7 +178,7 @@ fn accept(out: &mut [u8], count: u32, w: usize, h: usize, samples: &[i32]) -> us
     close(out, end)
 }
 
-// Answers a line that no number applies to: picture and result have a place for each of its w·h greys, work 4,096. The straightener accepts
+// Answers a line that no number applies to: picture and result have a place for each of its w·h greys, work what they take. The straightener accepts
 // it, so its refusal is never written.
 fn straighten_in(
     line: &[u8],
@@ -189,7 +191,7 @@ fn straighten_in(
     work: &mut [i32],
 ) -> usize
     requires { ⌜ Accepted (now line) w h setting ⌝ }
-    requires { ⌜ (length (now picture) ≡ w * h) × (length (now result) ≡ w * h) × (length (now work) ≡ 4096) ⌝ }
+    requires { ⌜ (length (now picture) ≡ w * h) × (length (now result) ≡ w * h) × (12 * max w h ≤ length (now work)) ⌝ }
     ensures { λ r. ⌜ Straightened (now (line .entry)) (now (out .entry)) (now (work .entry)) (now (out .exit)) (now (picture .exit)) (now (result .exit)) (now (work .exit)) r ⌝ }
 {
     read_greys(line, picture);
@@ -200,7 +202,7 @@ fn straighten_in(
     }
 }
 
-// Answers a well-formed line in lent places, 4,096 of each kind.
+// Answers a well-formed line in lent places that are enough for it.
 fn respond(
     line: &[u8],
     out: &mut [u8],
@@ -209,7 +211,7 @@ fn respond(
     work: &mut [i32],
 ) -> usize
     requires { ⌜ wellFormed (now line) ≡ true ⌝ }
-    requires { ⌜ (length (now picture) ≡ 4096) × (length (now result) ≡ 4096) × (length (now work) ≡ 4096) ⌝ }
+    requires { ⌜ Roomy (now line) (length (now picture)) (length (now result)) (length (now work)) ⌝ }
     ensures { λ r. ⌜ Answered (now (line .entry)) (now (out .entry)) (now (picture .entry)) (now (result .entry)) (now (work .entry)) (now (out .exit)) (now (picture .exit)) (now (result .exit)) (now (work .exit)) r ⌝ }
 {
     let w = field(line, 6);
@@ -241,7 +243,7 @@ pub fn answer_in(
     out: &mut [u8],
     picture: &mut [i32; 4096],
     result: &mut [i32; 4096],
-    work: &mut [i32; 4096],
+    work: &mut [i32; 12288],
 ) -> usize
     ensures { λ r. ⌜ Answered (now (line .entry)) (now (out .entry)) (now (picture .entry)) (now (result .entry)) (now (work .entry)) (now (out .exit)) (now (picture .exit)) (now (result .exit)) (now (work .exit)) r ⌝ }
 {
@@ -258,9 +260,80 @@ pub enum Written {
     Refused(u32),
 }
 
-// Room for the samples of one line, of its result, or for work.
+// Room for the samples of one line, or of its result.
 pub fn places() -> [i32; 4096] {
     [0; 4096]
+}
+
+// Room for the work of one line: 12·max(W, H) places, and a line of the line program may name a side of 1,024.
+pub fn work_places() -> [i32; 12288] {
+    [0; 12288]
+}
+
+// Room for up to 256 samples, and for the work of sides up to 256.
+fn few_places() -> [i32; 256] {
+    [0; 256]
+}
+
+fn less_work_places() -> [i32; 3072] {
+    [0; 3072]
+}
+
+// Answers a well-formed line of up to 256 greys.
+fn respond_small(line: &[u8], out: &mut [u8]) -> usize
+    requires { ⌜ (wellFormed (now line) ≡ true) × (length (now line) ≤ 534) ⌝ }
+    ensures { λ r. ⌜ Fitted (answerOf (now (line .entry))) (now (out .entry)) (now (out .exit)) r ⌝ }
+{
+    let mut picture = few_places();
+    let mut result = few_places();
+    let mut work = less_work_places();
+    respond(line, out, &mut picture, &mut result, &mut work)
+}
+
+// Answers a well-formed line whose sides are up to 256.
+fn respond_square(line: &[u8], out: &mut [u8]) -> usize
+    requires { ⌜ (wellFormed (now line) ≡ true) × (max (widthIn (now line)) (heightIn (now line)) ≤ 256) ⌝ }
+    ensures { λ r. ⌜ Fitted (answerOf (now (line .entry))) (now (out .entry)) (now (out .exit)) r ⌝ }
+{
+    let mut picture = places();
+    let mut result = places();
+    let mut work = less_work_places();
+    respond(line, out, &mut picture, &mut result, &mut work)
+}
+
+// Answers any well-formed line.
+fn respond_large(line: &[u8], out: &mut [u8]) -> usize
+    requires { ⌜ wellFormed (now line) ≡ true ⌝ }
+    ensures { λ r. ⌜ Fitted (answerOf (now (line .entry))) (now (out .entry)) (now (out .exit)) r ⌝ }
+{
+    let mut picture = places();
+    let mut result = places();
+    let mut work = work_places();
+    respond(line, out, &mut picture, &mut result, &mut work)
+}
+
+// Answers a well-formed line in places of its own: as few as it needs, since clearing them is most of what a short line costs.
+fn respond_own(line: &[u8], out: &mut [u8]) -> usize
+    requires { ⌜ wellFormed (now line) ≡ true ⌝ }
+    ensures { λ r. ⌜ Fitted (answerOf (now (line .entry))) (now (out .entry)) (now (out .exit)) r ⌝ }
+{
+    if line.len() <= 534 {
+        return respond_small(line, out);
+    }
+    if arith::most(field(line, 6), field(line, 10)) <= 256 {
+        return respond_square(line, out);
+    }
+    respond_large(line, out)
+}
+
+// The answer to any line where it fits, in places of its own.
+fn answer_own(line: &[u8], out: &mut [u8]) -> usize
+    ensures { λ r. ⌜ Fitted (answerOf (now (line .entry))) (now (out .entry)) (now (out .exit)) r ⌝ }
+{
+    if well_formed(line) {
+        return respond_own(line, out);
+    }
+    refuse(out, 9, 0, 0)
 }
 
 // The answer to any line, which comes without its line feed, to the front of out, with its line feed. An out under the places of the answer,
@@ -268,10 +341,7 @@ pub fn places() -> [i32; 4096] {
 pub fn answer(line: &[u8], out: &mut [u8]) -> Written
     ensures { λ r. ⌜ LineAnswered (now (line .entry)) (now (out .entry)) (now (out .exit)) r ⌝ }
 {
-    let mut picture = places();
-    let mut result = places();
-    let mut work = places();
-    let bytes = answer_in(line, out, &mut picture, &mut result, &mut work);
+    let bytes = answer_own(line, out);
     if bytes == 0 {
         return Written::Refused(2);
     }

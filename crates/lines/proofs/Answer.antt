@@ -1,39 +1,61 @@
 -- The call that moves one line: what an accepted call has passed, what its buffers hold at each step, and the answer in either case.
 -- Assumes nothing.
-use mathlib.Core.Path.{_≡_, sym, ap, _∙_}
-use mathlib.Core.Bool.{Bool, cond}
+use mathlib.Core.Path.{_≡_, refl, sym, ap, _∙_}
+use mathlib.Core.Bool.{Bool, false, cond}
 use mathlib.Core.List.{List, _++_}
-use Prim.Native.Nat.{ℕ, _+_, _*_, _≤_}
+use Prim.Native.Nat.{ℕ, _+_, _*_, _-_, _≤_, _<_}
 use native.Mathlib.Omega.{arith}
-use lib.IntN.{ℤ, pos}
-use lib.ListN.{length, take, drop, replicate}
+use lib.Dec.{ltb}
+use lib.IntN.{ℤ, pos, natAbs}
+use lib.ListN.{length, getD, take, drop, replicate}
 use lib.Seq.{drop-at, drop-drop}
-use Rattle.lists.specs.Line.{rolled}
-use Rattle.lists.specs.Grid.{put}
-use Rattle.lists.proofs.Grid.{put-front}
+use Rattle.arith.specs.Move.{fraction}
+use Rattle.arith.proofs.Within.{size-within}
+use Rattle.lists.specs.Line.{line, rolled}
+use Rattle.lists.specs.Grid.{placed, lineOf, put}
+use Rattle.lists.proofs.Tab.{tab-ext, tab-take}
+use Rattle.lists.proofs.Grid.{put-front, put-cong}
 use Rattle.refusals.specs.declared.Verdict.the-variants as verdict
 use Rattle.refusals.specs.Tests.{badSide, short, badKernel, beyondOf, firstBad}
 use Rattle.refusals.specs.Judging.{whenAccepted}
 use Rattle.refusals.specs.Judging as judging
-use Rattle.refusals.proofs.Tests.{or-false, side-good, short-good, kernel-good, beyond-good}
+use Rattle.refusals.proofs.Tests.{or-false, side-good, short-good, kernel-good, beyond-good, good-beyond}
 use Rattle.refusals.proofs.First.{nothing-bad}
 use Rattle.refusals.proofs.Judging.{refusedIf-accepted, ofFound-accepted}
-use Rattle.kernels.specs.Kernel.{kernelOf}
+use Rattle.settings.specs.declared.Border.{Border}
+use Rattle.settings.specs.declared.Border.the-variants.{Wrapped, Background}
+use Rattle.kernels.specs.Kernel.{Kernel, kernelOf}
 use Rattle.lines.specs.declared.LineOutcome.the-variants.{Moved, Refused}
-use Rattle.lines.specs.Move.{move}
-use Rattle.lines.specs.InPlace.{turnedBy}
+use Rattle.lines.specs.declared.Part.{Part}
+use Rattle.lines.specs.Border.{bordered, moveIn, badBackground, grey}
+use Rattle.lines.specs.InPlace.{prepared}
+use Rattle.lines.specs.Row.{places, setIn, startAt, held, Covers, loadedOf, weighedPart, Alike}
+use Rattle.lines.proofs.Border.{held-fraction}
+use Rattle.lines.proofs.Kept.{kept-in-place}
 use Rattle.lines.specs.Answer.{farthest, range, tooShort, judged, Movable, isInterpolated, outcomeBy, outcomeOf, LineMoved}
 
+-- a background that passed its test
+pub background-good : (β : Border) → badBackground β ≡ false → natAbs (grey β) ≤ 32767
+unfolding badBackground
+background-good Wrapped e = omega arith
+background-good (Background b) e = beyond-good b e
+
+pub good-background : (β : Border) → natAbs (grey β) ≤ 32767 → badBackground β ≡ false
+unfolding badBackground
+good-background Wrapped h = refl
+good-background (Background b) h = good-beyond b h
+
 -- what an accepted call has passed
-module _ (n kernel : ℕ) (d : ℤ) (line : List ℤ) (result work : ℕ) where
-  pub accepted : judged n kernel d line result work ≡ verdict.Accepted → Movable n kernel d line result work
+module _ (n kernel : ℕ) (d : ℤ) (β : Border) (line : List ℤ) (result work : ℕ) where
+  pub accepted : judged n kernel d β line result work ≡ verdict.Accepted → Movable n kernel d β line result work
   unfolding judged tooShort
   accepted e =
       let one = refusedIf-accepted (badSide n) 1 _ e in
       let two = refusedIf-accepted (tooShort n (length line) result work) 2 _ (one .1) in
       let four = refusedIf-accepted (beyondOf farthest d) 4 _ (two .1) in
       let five = refusedIf-accepted (badKernel kernel) 5 _ (four .1) in
-      let six = nothing-bad range n 1 line .0 (ofFound-accepted (firstBad range n 1 line) (five .1)) in
+      let twelve = refusedIf-accepted (badBackground β) 12 _ (five .1) in
+      let six = nothing-bad range n 1 line .0 (ofFound-accepted (firstBad range n 1 line) (twelve .1)) in
       let buffers = or-false (short (length line) n) _ (two .0) in
       let others = or-false (short result n) _ (buffers .1) in
       let side = side-good (one .0) in
@@ -45,55 +67,92 @@ module _ (n kernel : ℕ) (d : ℤ) (line : List ℤ) (result work : ℕ) where
         work-room = short-good (others .1);
         near = beyond-good d (four .0);
         known = kernel-good (five .0);
+        plain = background-good β (twelve .0);
         samples = λ k l. six k (omega arith);
       }
 
 -- ---- the answer, refused and accepted
-module _ (n kernel : ℕ) (d : ℤ) (line result work : List ℤ) where
-  pub line-refused : (number row column : ℕ) → judged n kernel d line (length result) (length work) ≡ verdict.Refused number row column
-      → LineMoved n kernel d line result work result work (Refused number row column)
+module _ (n kernel : ℕ) (d : ℤ) (β : Border) (line result work : List ℤ) where
+  pub line-refused : (number row column : ℕ) → judged n kernel d β line (length result) (length work) ≡ verdict.Refused number row column
+      → LineMoved n kernel d β line result work result work (Refused number row column)
   unfolding outcomeOf
   line-refused number row column e =
       record {
-        outcome = ap (λ v. outcomeBy v (isInterpolated d)) (sym e);
+        outcome = ap (λ v. outcomeBy v (isInterpolated β n d)) (sym e);
         number = ap judging.numberOf (sym e);
         row = ap judging.rowOf (sym e);
         column = ap judging.columnOf (sym e);
-        count = ap (λ v. whenAccepted v (cond (isInterpolated d) 1 0) 0) (sym e);
-        result = ap (λ v. whenAccepted v (move (kernelOf kernel) d (take n line) ++ drop n result) result) (sym e);
-        work = ap (λ v. whenAccepted v (replicate (2 * n) (pos 0) ++ drop (2 * n) work) work) (sym e);
+        count = ap (λ v. whenAccepted v (cond (isInterpolated β n d) 1 0) 0) (sym e);
+        result = ap (λ v. whenAccepted v (moveIn β (kernelOf kernel) d (take n line) ++ drop n result) result) (sym e);
+        work = ap (λ v. whenAccepted v (replicate (6 * n) (pos 0) ++ drop (6 * n) work) work) (sym e);
       }
 
-  pub line-moved : (result′ work′ : List ℤ) (interpolated : Bool) → judged n kernel d line (length result) (length work) ≡ verdict.Accepted
-      → interpolated ≡ isInterpolated d → result′ ≡ move (kernelOf kernel) d (take n line) ++ drop n result
-      → work′ ≡ replicate (2 * n) (pos 0) ++ drop (2 * n) work
-      → LineMoved n kernel d line result work result′ work′ (Moved interpolated)
+  pub line-moved : (result′ work′ : List ℤ) (interpolated : Bool) → judged n kernel d β line (length result) (length work) ≡ verdict.Accepted
+      → interpolated ≡ isInterpolated β n d → result′ ≡ moveIn β (kernelOf kernel) d (take n line) ++ drop n result
+      → work′ ≡ replicate (6 * n) (pos 0) ++ drop (6 * n) work
+      → LineMoved n kernel d β line result work result′ work′ (Moved interpolated)
   unfolding outcomeOf
   line-moved result′ work′ interpolated e i r w =
       record {
-        outcome = ap Moved i ∙ ap (λ v. outcomeBy v (isInterpolated d)) (sym e);
+        outcome = ap Moved i ∙ ap (λ v. outcomeBy v (isInterpolated β n d)) (sym e);
         number = ap judging.numberOf (sym e);
         row = ap judging.rowOf (sym e);
         column = ap judging.columnOf (sym e);
-        count = ap (λ b. cond b 1 0) i ∙ ap (λ v. whenAccepted v (cond (isInterpolated d) 1 0) 0) (sym e);
-        result = r ∙ ap (λ v. whenAccepted v (move (kernelOf kernel) d (take n line) ++ drop n result) result) (sym e);
-        work = w ∙ ap (λ v. whenAccepted v (replicate (2 * n) (pos 0) ++ drop (2 * n) work) work) (sym e);
+        count = ap (λ b. cond b 1 0) i ∙ ap (λ v. whenAccepted v (cond (isInterpolated β n d) 1 0) 0) (sym e);
+        result = r ∙ ap (λ v. whenAccepted v (moveIn β (kernelOf kernel) d (take n line) ++ drop n result) result) (sym e);
+        work = w ∙ ap (λ v. whenAccepted v (replicate (6 * n) (pos 0) ++ drop (6 * n) work) work) (sym e);
       }
 
 -- ---- the buffers
--- a line that is stored turned from the first place on
-pub stored-front : (r : ℕ) (t result : List ℤ) → length t ≤ length result → put 0 1 (rolled r t) (length t) result ≡ turnedBy r t ++ drop (length t) result
-unfolding turnedBy
-stored-front r t result h = put-front (rolled r t) (length t) result h
-
--- what was in the first n places, twice, does not matter past 2n
-pub past-both : (n : ℕ) (a b work : List ℤ) → length a ≡ n → length b ≡ n → drop (2 * n) (a ++ drop n (b ++ drop n work)) ≡ drop (2 * n) work
-past-both n a b work ea eb =
-    ap (λ (m : ℕ). drop m (a ++ drop n (b ++ drop n work))) (twice n)
-    ∙ sym (drop-drop n n (a ++ drop n (b ++ drop n work)))
-    ∙ ap (drop n) (drop-at a (drop n (b ++ drop n work)) n ea ∙ drop-at b (drop n work) n eb)
-    ∙ drop-drop n n work
-    ∙ ap (λ (m : ℕ). drop m work) (sym (twice n))
+-- the first n places of a line are the line from its first place on
+pub front-line : (n : ℕ) (s : List ℤ) → n ≤ length s → lineOf 0 1 n s ≡ take n s
+unfolding lineOf placed
+front-line n s h = tab-ext (λ k. getD s (0 + k * 1) (pos 0)) (λ k. getD s k (pos 0)) n (λ k l. ap (λ (j : ℕ). getD s j (pos 0)) (place k)) ∙ tab-take s (pos 0) n h
   where
-    twice : (n : ℕ) → 2 * n ≡ n + n
-    twice n = omega arith
+    place : (k : ℕ) → 0 + k * 1 ≡ k
+    place k = omega arith
+
+-- a line of which the part that is needed was set into a row, weighed there and stored from its start on
+pub stored-kept : (β : Border) (κ : Kernel) (d : ℤ) (part : Part) (s row result : List ℤ) → 0 < length s → length s ≤ length result → length row ≡ places β (length s)
+    → natAbs (grey β) ≤ 294912 → ((k : ℕ) → k < length s → natAbs (line s k) ≤ 294912)
+    → Covers β (length s) (startAt β (length s) (held β (length s) d)) part → Alike (loadedOf κ (places β (length s)) part) row (setIn β s)
+    → put 0 1 (rolled (startAt β (length s) (held β (length s) d)) (weighedPart κ (pos (fraction (held β (length s) d))) part (prepared κ row))) (length s) result
+    ≡ moveIn β κ d s ++ drop (length s) result
+unfolding moveIn
+stored-kept β κ d part s row result some h long plain small covers alike =
+    put-cong 0 1 _ (bordered β κ (length s) d (line s)) (length s) result
+    (λ k l. sym (kept-in-place β κ d part s row some long (size-within (grey β) 294912 plain) (λ j m. size-within (line s j) 294912 (small j m)) covers alike k l))
+    ∙ put-front (bordered β κ (length s) d (line s)) (length s) result h
+
+-- a line is interpolated where the move that is made has an f
+pub held-interpolated : (β : Border) (n : ℕ) (d : ℤ) → ltb 0 (fraction (held β n d)) ≡ isInterpolated β n d
+unfolding isInterpolated
+held-interpolated β n d = ap (ltb 0) (sym (held-fraction β n d))
+
+-- what was in the first m places does not matter past them
+pub past-room : (m l : ℕ) (room work : List ℤ) → length room ≡ m → m ≤ l → drop l (room ++ drop m work) ≡ drop l work
+past-room m l room work e h =
+    ap (λ (j : ℕ). drop j (room ++ drop m work)) (split m l h)
+    ∙ sym (drop-drop (l - m) m (room ++ drop m work))
+    ∙ ap (drop (l - m)) (drop-at room (drop m work) m e)
+    ∙ drop-drop (l - m) m work
+    ∙ ap (λ (j : ℕ). drop j work) (sym (split m l h))
+  where
+    split : (m l : ℕ) → m ≤ l → l ≡ m + (l - m)
+    split m l h = omega arith
+
+-- the part of the work that is lent suffices
+pub room-lent : {n kernel : ℕ} {d : ℤ} {β : Border} {line : List ℤ} {result work : ℕ} → Movable n kernel d β line result work
+    → Movable n kernel d β line result (6 * n)
+room-lent m =
+    record {
+      some = m .some;
+      few = m .few;
+      line-room = m .line-room;
+      result-room = m .result-room;
+      work-room = omega arith;
+      near = m .near;
+      known = m .known;
+      plain = m .plain;
+      samples = m .samples;
+    }

@@ -1,4 +1,4 @@
--- Verdicts on a line at the borders of each range and in the order of the numbers, and the figures of outcomes, worked out by the checker.
+-- Verdicts on a line at the ends of each range and in the order of the numbers, and the figures of outcomes, worked out by the checker.
 -- Assumes nothing.
 use mathlib.Core.Path.{_≡_, refl}
 use mathlib.Core.List.{List, [], _∷_, map}
@@ -10,18 +10,21 @@ use Rattle.arith.specs.Move.{fraction}
 use Rattle.refusals.specs.declared.Verdict.{Verdict}
 use Rattle.refusals.specs.declared.Verdict.the-variants.{Accepted, Refused}
 use Rattle.refusals.specs.Tests.{badSide, short, badKernel, beyondOf, firstFrom, firstBad}
+use Rattle.settings.specs.declared.Border.{Border}
+use Rattle.settings.specs.declared.Border.the-variants.{Wrapped, Background}
 use Rattle.lines.specs.declared.LineOutcome.{LineOutcome}
+use Rattle.lines.specs.Border.{far, gone, fractionIn, badBackground}
 use Rattle.lines.specs.Answer.{tooShort, judged, isInterpolated, outcomeOf, numberOf, rowOf, columnOf, countOf}
 
--- a call: n, the kernel, d, the line, and the places of the result and the work
+-- a call: n, the kernel, d, the border, the line, and the places of the result and the work
 data Call : Type 0 where
-  call : ℕ → ℕ → ℤ → List ℤ → ℕ → ℕ → Call
+  call : ℕ → ℕ → ℤ → Border → List ℤ → ℕ → ℕ → Call
 
 abbrev verdictOf : Call → Verdict
-verdictOf (call n kernel d line result work) = judged n kernel d line result work
+verdictOf (call n kernel d β line result work) = judged n kernel d β line result work
 
 abbrev outcome : Call → LineOutcome
-outcome (call n kernel d line result work) = outcomeOf n kernel d line result work
+outcome (call n kernel d β line result work) = outcomeOf n kernel d β line result work
 
 -- samples at either end of their range, and one past each
 abbrev ends : List ℤ
@@ -33,63 +36,87 @@ past = pos 0 ∷ pos 294913 ∷ negsuc 294912 ∷ []
 abbrev below : List ℤ
 below = pos 0 ∷ pos 0 ∷ negsuc 294912 ∷ pos 294913 ∷ []
 
--- both ends of every range, and buffers of just n, n and 2n places
+-- both ends of every range, and buffers of just n, n and 6n places
 accepted-at-the-ends :
     map verdictOf
-    (call 1 0 (pos 4194304) ends 1 2
-    ∷ call 2 2 (negsuc 4194303) ends 2 4
-    ∷ call 1024 1 (pos 0) (replicate 1024 (pos 0)) 1024 2048
+    (call 1 0 (pos 4194304) Wrapped ends 1 6
+    ∷ call 2 2 (negsuc 4194303) Wrapped ends 2 12
+    ∷ call 1024 1 (pos 0) Wrapped (replicate 1024 (pos 0)) 1024 6144
+    ∷ call 2 0 (pos 1) (Background (pos 32767)) ends 2 12
+    ∷ call 2 0 (pos 1) (Background (negsuc 32766)) ends 2 12
     ∷ [])
-    ≡ replicate 3 Accepted
-unfolding judged tooShort badSide short badKernel beyondOf firstBad firstFrom
+    ≡ replicate 5 Accepted
+unfolding judged tooShort badSide short badKernel badBackground beyondOf firstBad firstFrom
 accepted-at-the-ends = refl
 
 -- one past each end, and each buffer one place short
 refused-past-the-ends :
     map verdictOf
-    (call 0 0 (pos 0) ends 2 4
-    ∷ call 1025 0 (pos 0) (replicate 1025 (pos 0)) 1025 2050
-    ∷ call 3 0 (pos 0) ends 3 6
-    ∷ call 2 0 (pos 0) ends 1 4
-    ∷ call 2 0 (pos 0) ends 2 3
-    ∷ call 2 0 (pos 4194305) ends 2 4
-    ∷ call 2 0 (negsuc 4194304) ends 2 4
-    ∷ call 2 3 (pos 0) ends 2 4
+    (call 0 0 (pos 0) Wrapped ends 2 12
+    ∷ call 1025 0 (pos 0) Wrapped (replicate 1025 (pos 0)) 1025 6150
+    ∷ call 3 0 (pos 0) Wrapped ends 3 18
+    ∷ call 2 0 (pos 0) Wrapped ends 1 12
+    ∷ call 2 0 (pos 0) Wrapped ends 2 11
+    ∷ call 2 0 (pos 4194305) Wrapped ends 2 12
+    ∷ call 2 0 (negsuc 4194304) Wrapped ends 2 12
+    ∷ call 2 3 (pos 0) Wrapped ends 2 12
+    ∷ call 2 0 (pos 0) (Background (pos 32768)) ends 2 12
+    ∷ call 2 0 (pos 0) (Background (negsuc 32767)) ends 2 12
     ∷ [])
-    ≡ Refused 1 0 0 ∷ Refused 1 0 0 ∷ Refused 2 0 0 ∷ Refused 2 0 0 ∷ Refused 2 0 0 ∷ Refused 4 0 0 ∷ Refused 4 0 0 ∷ Refused 5 0 0 ∷ []
-unfolding judged tooShort badSide short badKernel beyondOf firstBad firstFrom
+    ≡ Refused 1 0 0
+    ∷ Refused 1 0 0
+    ∷ Refused 2 0 0
+    ∷ Refused 2 0 0
+    ∷ Refused 2 0 0
+    ∷ Refused 4 0 0
+    ∷ Refused 4 0 0
+    ∷ Refused 5 0 0
+    ∷ Refused 12 0 0
+    ∷ Refused 12 0 0
+    ∷ []
+unfolding judged tooShort badSide short badKernel badBackground beyondOf firstBad firstFrom
 refused-past-the-ends = refl
 
 -- the first sample past its range, above or below, in row 0, whatever comes after it; not one that is past the n samples
 first-bad-sample :
-    map verdictOf (call 3 0 (pos 0) past 3 6 ∷ call 4 0 (pos 0) below 4 8 ∷ call 2 0 (pos 0) below 2 4 ∷ [])
+    map verdictOf (call 3 0 (pos 0) Wrapped past 3 18 ∷ call 4 0 (pos 0) Wrapped below 4 24 ∷ call 2 0 (pos 0) Wrapped below 2 12 ∷ [])
     ≡ Refused 6 0 1 ∷ Refused 6 0 2 ∷ Accepted ∷ []
-unfolding judged tooShort badSide short badKernel beyondOf firstBad firstFrom
+unfolding judged tooShort badSide short badKernel badBackground beyondOf firstBad firstFrom
 first-bad-sample = refl
 
--- of two neighbouring numbers that both apply the lower is told
-lower-of-two :
+-- of two neighbouring numbers that both apply the one that is judged first is told: 12 stands between 5 and 6
+first-of-two :
     map verdictOf
-    (call 1025 0 (pos 0) [] 0 0
-    ∷ call 3 0 (pos 4194305) past 3 5
-    ∷ call 3 3 (pos 4194305) past 3 6
-    ∷ call 3 3 (pos 0) past 3 6
+    (call 1025 0 (pos 0) Wrapped [] 0 0
+    ∷ call 3 0 (pos 4194305) Wrapped past 3 17
+    ∷ call 3 3 (pos 4194305) Wrapped past 3 18
+    ∷ call 3 3 (pos 0) (Background (pos 32768)) past 3 18
+    ∷ call 3 2 (pos 0) (Background (pos 32768)) past 3 18
     ∷ [])
-    ≡ Refused 1 0 0 ∷ Refused 2 0 0 ∷ Refused 4 0 0 ∷ Refused 5 0 0 ∷ []
-unfolding judged tooShort badSide short badKernel beyondOf firstBad firstFrom
-lower-of-two = refl
+    ≡ Refused 1 0 0 ∷ Refused 2 0 0 ∷ Refused 4 0 0 ∷ Refused 5 0 0 ∷ Refused 12 0 0 ∷ []
+unfolding judged tooShort badSide short badKernel badBackground beyondOf firstBad firstFrom
+first-of-two = refl
 
--- number, row, column and count: of a refused call, of a move by a 4,096th of a sample either way, and of one by a whole sample
+-- number, row, column and count: of a refused call, of a move by a 4,096th of a sample either way, of one by a whole sample, and on background of
+-- a move by N samples and a 4,096th, which leaves nothing to count, and of one by a 4,096th less than N
 abbrev figures : Call → List ℕ
 figures c = let r = outcome c in numberOf r ∷ rowOf r ∷ columnOf r ∷ countOf r ∷ []
 
 figures-of-outcomes :
     map figures
-    (call 3 0 (pos 2048) past 3 6
-    ∷ call 2 0 (pos 1) ends 2 4
-    ∷ call 2 0 (negsuc 0) ends 2 4
-    ∷ call 2 0 (negsuc 4095) ends 2 4
+    (call 3 0 (pos 2048) Wrapped past 3 18
+    ∷ call 2 0 (pos 1) Wrapped ends 2 12
+    ∷ call 2 0 (negsuc 0) Wrapped ends 2 12
+    ∷ call 2 0 (negsuc 4095) Wrapped ends 2 12
+    ∷ call 2 0 (pos 8193) (Background (pos 0)) ends 2 12
+    ∷ call 2 0 (negsuc 8190) (Background (pos 0)) ends 2 12
     ∷ [])
-    ≡ (6 ∷ 0 ∷ 1 ∷ 0 ∷ []) ∷ (0 ∷ 0 ∷ 0 ∷ 1 ∷ []) ∷ (0 ∷ 0 ∷ 0 ∷ 1 ∷ []) ∷ (0 ∷ 0 ∷ 0 ∷ 0 ∷ []) ∷ []
-unfolding outcomeOf isInterpolated fraction remainder floor judged tooShort badSide short badKernel beyondOf firstBad firstFrom
+    ≡ (6 ∷ 0 ∷ 1 ∷ 0 ∷ [])
+    ∷ (0 ∷ 0 ∷ 0 ∷ 1 ∷ [])
+    ∷ (0 ∷ 0 ∷ 0 ∷ 1 ∷ [])
+    ∷ (0 ∷ 0 ∷ 0 ∷ 0 ∷ [])
+    ∷ (0 ∷ 0 ∷ 0 ∷ 0 ∷ [])
+    ∷ (0 ∷ 0 ∷ 0 ∷ 1 ∷ [])
+    ∷ []
+unfolding outcomeOf isInterpolated fractionIn gone far fraction remainder floor judged tooShort badSide short badKernel badBackground beyondOf firstBad firstFrom
 figures-of-outcomes = refl

@@ -6,16 +6,16 @@ use Prim.Native.Nat.{ℕ, _*_, _≤_}
 use lib.Dec.{ltb}
 use lib.IntN.{ℤ, pos, natAbs}
 use lib.ListN.{length, take, drop, replicate}
-use Rattle.arith.specs.Move.{fraction}
 use Rattle.refusals.specs.declared.Verdict.{Verdict}
 use Rattle.refusals.specs.declared.Verdict.the-variants as verdict
 use Rattle.refusals.specs.Tests.{badSide, short, badKernel, beyondOf, firstBad, AllWithin}
 use Rattle.refusals.specs.Judging.{refusedIf, ofFound, whenAccepted}
 use Rattle.refusals.specs.Judging as judging
+use Rattle.settings.specs.declared.Border.{Border}
 use Rattle.kernels.specs.Kernel.{kernelOf}
 use Rattle.lines.specs.declared.LineOutcome.{LineOutcome}
 use Rattle.lines.specs.declared.LineOutcome.the-variants.{Moved, Refused}
-use Rattle.lines.specs.Move.{move}
+use Rattle.lines.specs.Border.{moveIn, fractionIn, badBackground, grey}
 
 -- the farthest move, in 4,096ths of a sample, and the range of samples
 abbrev pub farthest : ℕ
@@ -24,40 +24,42 @@ farthest = 4194304
 abbrev pub range : ℕ
 range = 294912
 
--- 2: the line or the result under n places, or the work under 2n
+-- 2: the line or the result under n places, or the work under 6n
 unfoldable pub tooShort : ℕ → ℕ → ℕ → ℕ → Bool
-tooShort n line result work = short line n || (short result n || short work (2 * n))
+tooShort n line result work = short line n || (short result n || short work (6 * n))
 
--- numbers 1, 2, 4, 5 and 6, for a line that is lent and buffers of `result` and `work` places
-unfoldable pub judged : ℕ → ℕ → ℤ → List ℤ → ℕ → ℕ → Verdict
-judged n kernel d line result work =
+-- numbers 1, 2, 4, 5, 12 and 6, for a line that is lent and buffers of `result` and `work` places: 12 is judged after 5 and before 6
+unfoldable pub judged : ℕ → ℕ → ℤ → Border → List ℤ → ℕ → ℕ → Verdict
+judged n kernel d β line result work =
     refusedIf (badSide n) 1
     (refusedIf (tooShort n (length line) result work) 2
     (refusedIf (beyondOf farthest d) 4
     (refusedIf (badKernel kernel) 5
-    (ofFound (firstBad range n 1 line)))))
+    (refusedIf (badBackground β) 12
+    (ofFound (firstBad range n 1 line))))))
 
 -- what an accepted call has passed
-pub record Movable (n kernel : ℕ) (d : ℤ) (line : List ℤ) (result work : ℕ) : Type 0 where
+pub record Movable (n kernel : ℕ) (d : ℤ) (β : Border) (line : List ℤ) (result work : ℕ) : Type 0 where
   pub some : 1 ≤ n
   pub few : n ≤ 1024
   pub line-room : n ≤ length line
   pub result-room : n ≤ result
-  pub work-room : 2 * n ≤ work
+  pub work-room : 6 * n ≤ work
   pub near : natAbs d ≤ farthest
   pub known : kernel ≤ 2
+  pub plain : natAbs (grey β) ≤ 32767
   pub samples : AllWithin range n line
 
--- a line is interpolated where f is not 0
-unfoldable pub isInterpolated : ℤ → Bool
-isInterpolated d = ltb 0 (fraction d)
+-- a line is interpolated where f is not 0, unless it becomes all background
+unfoldable pub isInterpolated : Border → ℕ → ℤ → Bool
+isInterpolated β n d = ltb 0 (fractionIn β n d)
 
 abbrev pub outcomeBy : Verdict → Bool → LineOutcome
 outcomeBy verdict.Accepted interpolated = Moved interpolated
 outcomeBy (verdict.Refused number row column) interpolated = Refused number row column
 
-unfoldable pub outcomeOf : ℕ → ℕ → ℤ → List ℤ → ℕ → ℕ → LineOutcome
-outcomeOf n kernel d line result work = outcomeBy (judged n kernel d line result work) (isInterpolated d)
+unfoldable pub outcomeOf : ℕ → ℕ → ℤ → Border → List ℤ → ℕ → ℕ → LineOutcome
+outcomeOf n kernel d β line result work = outcomeBy (judged n kernel d β line result work) (isInterpolated β n d)
 
 -- document 01's figures of an outcome: an accepted call has number, row and column 0
 abbrev pub numberOf : LineOutcome → ℕ
@@ -78,16 +80,16 @@ countOf (Moved interpolated) = cond interpolated 1 0
 countOf (Refused number row column) = 0
 
 -- the call: its outcome, and what the result and the work hold afterwards, from `result₀` and `work₀`
-pub record LineMoved (n kernel : ℕ) (d : ℤ) (line result₀ work₀ result₁ work₁ : List ℤ) (r : LineOutcome) : Type 0 where
-  pub outcome : r ≡ outcomeOf n kernel d line (length result₀) (length work₀)
+pub record LineMoved (n kernel : ℕ) (d : ℤ) (β : Border) (line result₀ work₀ result₁ work₁ : List ℤ) (r : LineOutcome) : Type 0 where
+  pub outcome : r ≡ outcomeOf n kernel d β line (length result₀) (length work₀)
   -- the figures are the verdict's, and refused the count is 0
-  pub number : numberOf r ≡ judging.numberOf (judged n kernel d line (length result₀) (length work₀))
-  pub row : rowOf r ≡ judging.rowOf (judged n kernel d line (length result₀) (length work₀))
-  pub column : columnOf r ≡ judging.columnOf (judged n kernel d line (length result₀) (length work₀))
-  pub count : countOf r ≡ whenAccepted (judged n kernel d line (length result₀) (length work₀)) (cond (isInterpolated d) 1 0) 0
+  pub number : numberOf r ≡ judging.numberOf (judged n kernel d β line (length result₀) (length work₀))
+  pub row : rowOf r ≡ judging.rowOf (judged n kernel d β line (length result₀) (length work₀))
+  pub column : columnOf r ≡ judging.columnOf (judged n kernel d β line (length result₀) (length work₀))
+  pub count : countOf r ≡ whenAccepted (judged n kernel d β line (length result₀) (length work₀)) (cond (isInterpolated β n d) 1 0) 0
   -- accepted, the first n places hold the moved line
   pub result :
-      result₁ ≡ whenAccepted (judged n kernel d line (length result₀) (length work₀)) (move (kernelOf kernel) d (take n line) ++ drop n result₀) result₀
-  -- accepted, the first 2n places hold 0
+      result₁ ≡ whenAccepted (judged n kernel d β line (length result₀) (length work₀)) (moveIn β (kernelOf kernel) d (take n line) ++ drop n result₀) result₀
+  -- accepted, the first 6n places hold 0
   pub work :
-      work₁ ≡ whenAccepted (judged n kernel d line (length result₀) (length work₀)) (replicate (2 * n) (pos 0) ++ drop (2 * n) work₀) work₀
+      work₁ ≡ whenAccepted (judged n kernel d β line (length result₀) (length work₀)) (replicate (6 * n) (pos 0) ++ drop (6 * n) work₀) work₀

@@ -1,7 +1,11 @@
 -- One line moved, document 01's 'One line moved'.
 --     Move      the move, in the document's words
---     InPlace   the same by steps, as the code takes them
+--     Border    the same under a border
+--     InPlace   the move by steps, as the code takes them
+--     Row       the row that a line is moved in under a border
 --     Answer    what the call that moves one line answers
 pub mod Move
+pub mod Border
 pub mod InPlace
+pub mod Row
 pub mod Answer

@@ -7,7 +7,7 @@ use mathlib.Core.List.{List, _++_}
 use mathlib.Core.Logic.{⊎-elim}
 use native.Mathlib.Omega.{arith}
 use native.Mathlib.Numerals.{add-one}
-use native.Mathlib.Nat.{eq-or-lt-of-le, not-suc-le-zero, le-of-suc-le-suc, add-zero, add-suc, add-mul, mul-zero, mod-lt, div-lt-iff-lt-mul, div-add-mod'}
+use native.Mathlib.Nat.{eq-or-lt-of-le, not-suc-le-zero, le-of-suc-le-suc, add-zero, add-suc, add-mul, mul-zero, mod-lt, div-lt-iff-lt-mul, div-add-mod', add-sub-cancel-left}
 use lib.ListN.{getD, set, take, drop, length, length-set, length-take, length-drop}
 use lib.Seq.{getD-set-same, getD-set-other, getD-take, getD-drop, ext-getD, length-take-le}
 use lib.IntN.{ℤ, pos}
@@ -15,7 +15,7 @@ use Rattle.lists.specs.Tab.{tab}
 use Rattle.lists.specs.Line.{line, wrap, rolled}
 use Rattle.lists.specs.Grid.{placed, lineOf, put, passed, Lines, rowOf}
 use Rattle.lists.proofs.Tab.{tab-none, tab-more, tab-at, tab-ext, tab-length, tab-take}
-use Rattle.lists.proofs.Rows.{row-in, part-at}
+use Rattle.lists.proofs.Rows.{row-in}
 use Rattle.lists.proofs.Cyclic.{wrap-periodic, wrap-own}
 
 -- ---- the loop that puts a line
@@ -64,46 +64,59 @@ put-split at along g m (suc n) pic =
     place : (m n : ℕ) → at + (m + n) * along ≡ at + m * along + n * along
     place m n = omega arith
 
--- a line that is put from its sample `turn` on, in two runs: the samples from there, and then those before
-pub put-rolled : (at along : ℕ) (s : List ℤ) (turn : ℕ) (pic : List ℤ) → turn < length s
-    → put (at + (length s - turn) * along) along (line (take turn s)) (length (take turn s))
-    (put at along (line (take (length s - turn) (drop turn s))) (length (take (length s - turn) (drop turn s))) pic)
-    ≡ put at along (rolled turn s) (length s) pic
-put-rolled at along s turn pic h =
-    ap₂ (λ (i j : ℕ). put (at + m * along) along (line (take turn s)) i (put at along (line (take m (drop turn s))) j pic))
-    (length-take-le turn s (omega arith)) ahead
-    ∙ ap (λ (p : List ℤ). put (at + m * along) along (line (take turn s)) turn p) (put-cong at along _ (rolled turn s) m pic first)
-    ∙ put-cong (at + m * along) along _ (λ k. rolled turn s (m + k)) turn (put at along (rolled turn s) m pic) second
-    ∙ sym (put-split at along (rolled turn s) m turn pic)
-    ∙ ap (λ (k : ℕ). put at along (rolled turn s) k pic) (whole (length s) h)
-  where
-    m : ℕ
-    m = length s - turn
+-- the first n places of a line that is put from its sample `turn` on. The samples from there may suffice; or they are one run, and the samples
+-- from the first on a second
+module _ (at along : ℕ) (s : List ℤ) (turn n : ℕ) (pic : List ℤ) where
+  from-turn : (m : ℕ) → turn + m ≤ length s → (k : ℕ) → k < m → line (take m (drop turn s)) k ≡ rolled turn s k
+  from-turn m h k l =
+      getD-take m (drop turn s) k (pos 0) l
+      ∙ getD-drop turn s k (pos 0)
+      ∙ ap (line s) (swap turn k)
+      ∙ sym (wrap-own (length s) (line s) (k + turn) (omega arith))
+    where
+      swap : (a b : ℕ) → a + b ≡ b + a
+      swap a b = omega arith
 
-    whole : (n : ℕ) → turn < n → n - turn + turn ≡ n
-    whole n h = omega arith
+  run-length : (m : ℕ) → turn + m ≤ length s → length (take m (drop turn s)) ≡ m
+  run-length m h = simp (length-take, length-drop) (omega arith)
 
-    ahead : length (take m (drop turn s)) ≡ m
-    ahead = simp (length-take, length-drop) (omega arith)
+  pub put-run : turn + n ≤ length s
+      → put at along (line (take (turn + n - turn) (drop turn s))) (length (take (turn + n - turn) (drop turn s))) pic ≡ put at along (rolled turn s) n pic
+  put-run h =
+      ap (λ (m : ℕ). put at along (line (take m (drop turn s))) (length (take m (drop turn s))) pic) (add-sub-cancel-left turn n)
+      ∙ ap (λ (j : ℕ). put at along (line (take n (drop turn s))) j pic) (run-length n h)
+      ∙ put-cong at along _ (rolled turn s) n pic (from-turn n h)
 
-    first : (k : ℕ) → k < m → line (take m (drop turn s)) k ≡ rolled turn s k
-    first k l =
-        part-at turn (length s) s k (pos 0) l
-        ∙ ap (line s) (swap turn k)
-        ∙ sym (wrap-own (length s) (line s) (k + turn) (omega arith))
-      where
-        swap : (a b : ℕ) → a + b ≡ b + a
-        swap a b = omega arith
+  pub put-rolled : turn < length s → n ≤ length s → length s - turn ≤ n
+      → put (at + (length s - turn) * along) along (line (take (n - (length s - turn)) s)) (length (take (n - (length s - turn)) s))
+      (put at along (line (take (length s - turn) (drop turn s))) (length (take (length s - turn) (drop turn s))) pic)
+      ≡ put at along (rolled turn s) n pic
+  put-rolled h fits over =
+      ap₂ (λ (i j : ℕ). put (at + m * along) along (line (take rest s)) i (put at along (line (take m (drop turn s))) j pic))
+      (length-take-le rest s (omega arith)) (run-length m (omega arith))
+      ∙ ap (λ (p : List ℤ). put (at + m * along) along (line (take rest s)) rest p) (put-cong at along _ (rolled turn s) m pic (from-turn m (omega arith)))
+      ∙ put-cong (at + m * along) along _ (λ k. rolled turn s (m + k)) rest (put at along (rolled turn s) m pic) second
+      ∙ sym (put-split at along (rolled turn s) m rest pic)
+      ∙ ap (λ (k : ℕ). put at along (rolled turn s) k pic) (whole (length s) over)
+    where
+      m : ℕ
+      m = length s - turn
 
-    second : (k : ℕ) → k < turn → line (take turn s) k ≡ rolled turn s (m + k)
-    second k l =
-        getD-take turn s k (pos 0) l
-        ∙ sym (wrap-own (length s) (line s) k (omega arith))
-        ∙ sym (wrap-periodic (length s) (line s) .again k)
-        ∙ ap (wrap (length s) (line s)) (sym (round (length s) h))
-      where
-        round : (n : ℕ) → turn < n → n - turn + k + turn ≡ k + n
-        round n h = omega arith
+      rest : ℕ
+      rest = n - (length s - turn)
+
+      whole : (l : ℕ) → l - turn ≤ n → l - turn + (n - (l - turn)) ≡ n
+      whole l h = omega arith
+
+      second : (k : ℕ) → k < rest → line (take rest s) k ≡ rolled turn s (m + k)
+      second k l =
+          getD-take rest s k (pos 0) l
+          ∙ sym (wrap-own (length s) (line s) k (omega arith))
+          ∙ sym (wrap-periodic (length s) (line s) .again k)
+          ∙ ap (wrap (length s) (line s)) (sym (round (length s) h))
+        where
+          round : (n : ℕ) → turn < n → n - turn + k + turn ≡ k + n
+          round n h = omega arith
 
 -- ---- the places of a line that is read
 pub lineOf-at : (at along n : ℕ) (pic : List ℤ) (k : ℕ) → k < n → getD (lineOf at along n pic) k (pos 0) ≡ getD pic (at + k * along) (pos 0)

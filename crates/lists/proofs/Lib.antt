@@ -3,12 +3,14 @@
 --     Fill     a loop that fills a list from the same places of a source, or with one value
 --     Cyclic   periodic lines: what holds on the first N places holds everywhere
 --     Rows     a flat list of rows
+--     Part     a part put back, place by place
 --     Grid     a line read back, every other place and line unchanged, lines of one direction apart and covering, rows and columns
 --     Table    a rule over a whole table, by one computed test
 pub mod Tab
 pub mod Fill
 pub mod Cyclic
 pub mod Rows
+pub mod Part
 pub mod Grid
 pub mod Table
 pub mod Examples

@@ -19,16 +19,24 @@ pub fn copy(src: &[i32], dst: &mut [i32], n: usize)
     }
 }
 
+// The first n places become one value; later ones stay.
+pub fn fill_with(places: &mut [i32], n: usize, value: i32)
+    requires { ⌜ n ≤ length (now places) ⌝ }
+    ensures { λ _. ⌜ now (places .exit) ≡ replicate n value ++ drop n (now (places .entry)) ⌝ }
+{
+    let mut k: usize = 0;
+    while k < n {
+        places[k] = value;
+        k += 1;
+    }
+}
+
 // The first n places become 0; later ones stay.
 pub fn clear(work: &mut [i32], n: usize)
     requires { ⌜ n ≤ length (now work) ⌝ }
     ensures { λ _. ⌜ now (work .exit) ≡ replicate n (pos 0) ++ drop n (now (work .entry)) ⌝ }
 {
-    let mut k: usize = 0;
-    while k < n {
-        work[k] = 0;
-        k += 1;
-    }
+    fill_with(work, n, 0);
 }
 
 // The line that starts at the place `at` of a picture, its places `along` apart, is read into `samples`.
@@ -57,20 +65,27 @@ pub fn store_part(picture: &mut [i32], at: usize, along: usize, samples: &[i32])
     }
 }
 
-// The same from sample `turn` on: place k gets sample k + turn, taken modulo the line's length.
-// Two straight runs, the samples from `turn` on and then those before it, so that no index is reduced.
-pub fn store_line(picture: &mut [i32], at: usize, along: usize, samples: &[i32], turn: usize)
-    requires { ⌜ ((k : ℕ) → k < length (now samples) → at + k * along < length (now picture)) ⌝ }
-    requires { ⌜ turn < length (now samples) ⌝ }
-    ensures { λ _. ⌜ now (picture .exit) ≡ put at along (rolled turn (now (samples .entry))) (length (now (samples .entry))) (now (picture .entry)) ⌝ }
+// The first n places of a line get the samples from `turn` on: place k gets sample k + turn, taken modulo their number.
+// At most two straight runs, the samples from `turn` on and then those from the first on, so that no index is reduced.
+pub fn store_line(
+    picture: &mut [i32],
+    at: usize,
+    along: usize,
+    samples: &[i32],
+    turn: usize,
+    n: usize,
+)
+    requires { ⌜ ((k : ℕ) → k < n → at + k * along < length (now picture)) ⌝ }
+    requires { ⌜ (turn < length (now samples)) × (n ≤ length (now samples)) ⌝ }
+    ensures { λ _. ⌜ now (picture .exit) ≡ put at along (rolled turn (now (samples .entry))) n (now (picture .entry)) ⌝ }
 {
-    store_part(picture, at, along, &samples[turn..]);
-    if 0 < turn {
-        store_part(
-            picture,
-            at + (samples.len() - turn) * along,
-            along,
-            &samples[..turn],
-        );
+    let run = samples.len() - turn;
+    if n <= run {
+        let end = turn + n;
+        store_part(picture, at, along, &samples[turn..end]);
+        return;
     }
+    store_part(picture, at, along, &samples[turn..]);
+    let rest = n - run;
+    store_part(picture, at + run * along, along, &samples[..rest]);
 }

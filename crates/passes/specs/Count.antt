@@ -1,12 +1,13 @@
--- The number of lines interpolated: those with f not 0, over all three passes. Assumes nothing.
+-- The number of lines interpolated: those with f not 0, over all three passes. A line that becomes all background is not. Assumes nothing.
 use Prim.Native.Nat.{ℕ, zero, suc, _+_, min}
 use lib.IntN.{ℤ}
-use Rattle.arith.specs.Move.{fraction}
+use Rattle.settings.specs.declared.Border.{Border}
+use Rattle.lines.specs.Border.{fractionIn}
 
--- of n lines, each 1 where f is not 0
-unfoldable pub interpolated : (ℕ → ℤ) → ℕ → ℕ
-interpolated move zero = 0
-interpolated move (suc n) = interpolated move n + min 1 (fraction (move n))
+-- of n lines of N samples, each 1 where f is not 0
+unfoldable pub interpolated : Border → ℕ → (ℕ → ℤ) → ℕ → ℕ
+interpolated β N move zero = 0
+interpolated β N move (suc n) = interpolated β N move n + min 1 (fractionIn β N (move n))
 
-unfoldable pub count : ℕ → ℕ → (ℕ → ℤ) → (ℕ → ℤ) → ℕ
-count W H rows columns = interpolated rows H + interpolated columns W + interpolated rows H
+unfoldable pub count : Border → ℕ → ℕ → (ℕ → ℤ) → (ℕ → ℤ) → ℕ
+count β W H rows columns = interpolated β W rows H + interpolated β H columns W + interpolated β W rows H

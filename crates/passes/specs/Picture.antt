@@ -6,8 +6,9 @@ use Prim.Native.Nat.{ℕ, _+_, _*_, _/_, _%_, _<_}
 use lib.IntN.{ℤ, pos, _-ℤ_, _*ℤ_}
 use Rattle.lists.specs.Tab.{tab}
 use Rattle.lists.specs.Line.{Line, line}
+use Rattle.settings.specs.declared.Border.{Border}
 use Rattle.kernels.specs.Kernel.{Kernel}
-use Rattle.lines.specs.Move.{moved}
+use Rattle.lines.specs.Border.{bordered}
 
 abbrev pub Picture : Type 0
 Picture = ℕ → Line
@@ -32,20 +33,20 @@ Places W H A = (y x : ℕ) → y < H → x < W → A y x
 abbrev pub shear : ℤ → ℕ → ℕ → ℤ
 shear A c i = A *ℤ (pos i -ℤ pos c)
 
--- one pass over rows: `move y` is the d of row y
-unfoldable pub rows-moved : Kernel → ℕ → (ℕ → ℤ) → Picture → Picture
-rows-moved κ W move p y = moved κ W (move y) (p y)
+-- one pass over rows under a border: `move y` is the d of row y
+unfoldable pub rows-moved : Border → Kernel → ℕ → (ℕ → ℤ) → Picture → Picture
+rows-moved β κ W move p y = bordered β κ W (move y) (p y)
 
 -- pass 1 moves the rows, pass 2 the columns, pass 3 the rows again, each from the samples that the pass before it left
-abbrev pub after-one : Kernel → ℕ → (ℕ → ℤ) → Picture → Picture
-after-one κ W rows p = rows-moved κ W rows p
+abbrev pub after-one : Border → Kernel → ℕ → (ℕ → ℤ) → Picture → Picture
+after-one β κ W rows p = rows-moved β κ W rows p
 
-abbrev pub after-two : Kernel → ℕ → ℕ → (ℕ → ℤ) → (ℕ → ℤ) → Picture → Picture
-after-two κ W H rows columns p = turned (rows-moved κ H columns (turned (after-one κ W rows p)))
+abbrev pub after-two : Border → Kernel → ℕ → ℕ → (ℕ → ℤ) → (ℕ → ℤ) → Picture → Picture
+after-two β κ W H rows columns p = turned (rows-moved β κ H columns (turned (after-one β κ W rows p)))
 
-abbrev pub straightened : Kernel → ℕ → ℕ → (ℕ → ℤ) → (ℕ → ℤ) → Picture → Picture
-straightened κ W H rows columns p = rows-moved κ W rows (after-two κ W H rows columns p)
+abbrev pub straightened : Border → Kernel → ℕ → ℕ → (ℕ → ℤ) → (ℕ → ℤ) → Picture → Picture
+straightened β κ W H rows columns p = rows-moved β κ W rows (after-two β κ W H rows columns p)
 
 -- the same of a flat list: the W·H samples that the call writes
-unfoldable pub straighten : Kernel → ℕ → ℕ → (ℕ → ℤ) → (ℕ → ℤ) → List ℤ → List ℤ
-straighten κ W H rows columns s = pictured W H (straightened κ W H rows columns (picture W s))
+unfoldable pub straighten : Border → Kernel → ℕ → ℕ → (ℕ → ℤ) → (ℕ → ℤ) → List ℤ → List ℤ
+straighten β κ W H rows columns s = pictured W H (straightened β κ W H rows columns (picture W s))

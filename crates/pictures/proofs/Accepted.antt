@@ -20,10 +20,12 @@ use Rattle.refusals.proofs.Tests.{or-false, size-good, short-good, kernel-good,
 use Rattle.refusals.proofs.Judging.{refusedIf-accepted, ofFound-accepted}
 use Rattle.refusals.proofs.First.{nothing-bad, BadAt, first-bad}
 use Rattle.settings.specs.declared.Setting.{Setting}
+use Rattle.lines.specs.Border.{badBackground}
+use Rattle.lines.proofs.Answer.{background-good, good-background}
 use Rattle.pictures.specs.Judge.{range, tooShort, badCentre, badShears, judged, Fit}
 
 -- ---- what each test that failed tells
-pub long-enough : (W H picture result work : ℕ) → tooShort W H picture result work ≡ false → (W * H ≤ picture) × (W * H ≤ result) × (4 * max W H ≤ work)
+pub long-enough : (W H picture result work : ℕ) → tooShort W H picture result work ≡ false → (W * H ≤ picture) × (W * H ≤ result) × (12 * max W H ≤ work)
 unfolding tooShort
 long-enough W H picture result work e =
     let a = or-false (short picture (W * H)) _ e in
@@ -59,7 +61,7 @@ module _ (W H : ℕ) (s : Setting) (picture : List ℤ) (result work : ℕ) wher
   -- a call that passes every test is accepted
   pub fit-accepted : Fit W H s picture result work → judged W H s picture result work ≡ Accepted
   unfolding judged
-  fit-accepted f = passed 1 size (passed 2 buffers (passed 3 centre (passed 4 shears (passed 5 kernel (ap ofFound samples)))))
+  fit-accepted f = passed 1 size (passed 2 buffers (passed 3 centre (passed 4 shears (passed 5 kernel (passed 12 background (ap ofFound samples))))))
     where
       passed : {t : Bool} (number : ℕ) {later : Verdict} → t ≡ false → later ≡ Accepted → refusedIf t number later ≡ Accepted
       passed number e l = rw e l
@@ -73,7 +75,7 @@ module _ (W H : ℕ) (s : Setting) (picture : List ℤ) (result work : ℕ) wher
 
       buffers : tooShort W H (length picture) result work ≡ false
       buffers = unfold tooShort short in
-          rw (le-ltb (length picture) (W * H) (f .picture-places), le-ltb result (W * H) (f .result-places), le-ltb work (4 * max W H) (f .work-places)) refl
+          rw (le-ltb (length picture) (W * H) (f .picture-places), le-ltb result (W * H) (f .result-places), le-ltb work (12 * max W H) (f .work-places)) refl
 
       centre : badCentre W H s ≡ false
       centre = unfold badCentre in rw (lt-leb W (s .cx) (f .centre .0), lt-leb H (s .cy) (f .centre .1)) refl
@@ -83,6 +85,9 @@ module _ (W H : ℕ) (s : Setting) (picture : List ℤ) (result work : ℕ) wher
 
       kernel : badKernel (s .kernel) ≡ false
       kernel = unfold badKernel in le-ltb 2 (s .kernel) (f .kernel)
+
+      background : badBackground (s .border) ≡ false
+      background = good-background (s .border) (f .background)
 
       samples : firstBad range W H picture ≡ Nothing
       samples = nothing-bad range W H picture .1 (λ i l. f .samples i (omega (arith, mul-comm W H)))
@@ -96,7 +101,8 @@ module _ (W H : ℕ) (s : Setting) (picture : List ℤ) (result work : ℕ) wher
       let three = refusedIf-accepted (badCentre W H s) 3 _ (two .1) in
       let four = refusedIf-accepted (badShears s) 4 _ (three .1) in
       let five = refusedIf-accepted (badKernel (s .kernel)) 5 _ (four .1) in
-      let six = nothing-bad range W H picture .0 (ofFound-accepted (firstBad range W H picture) (five .1)) in
+      let twelve = refusedIf-accepted (badBackground (s .border)) 12 _ (five .1) in
+      let six = nothing-bad range W H picture .0 (ofFound-accepted (firstBad range W H picture) (twelve .1)) in
       let size = size-good (one .0) in
       let long = long-enough W H (length picture) result work (two .0) in
       record {
@@ -108,6 +114,7 @@ module _ (W H : ℕ) (s : Setting) (picture : List ℤ) (result work : ℕ) wher
         centre = centre-inside W H s (three .0);
         shears = shears-within s (four .0);
         kernel = kernel-good (five .0);
+        background = background-good (s .border) (twelve .0);
         samples = λ i l. six i (omega (arith, mul-comm W H));
       }
 
@@ -115,15 +122,16 @@ module _ (W H : ℕ) (s : Setting) (picture : List ℤ) (result work : ℕ) wher
   pub refused-sample : (y x : ℕ) → judged W H s picture result work ≡ Refused 6 y x → BadAt range W H picture y x
   unfolding judged
   refused-sample y x e =
-      let one = past (badSize W H) 1 _ y x (omega arith) e in
-      let two = past (tooShort W H (length picture) result work) 2 _ y x (omega arith) one in
-      let three = past (badCentre W H s) 3 _ y x (omega arith) two in
-      let four = past (badShears s) 4 _ y x (omega arith) three in
-      let five = past (badKernel (s .kernel)) 5 _ y x (omega arith) four in
-      first-bad range W H picture y x .0 (found (firstBad range W H picture) y x five)
+      let one = past (badSize W H) 1 _ y x (λ q. omega arith) e in
+      let two = past (tooShort W H (length picture) result work) 2 _ y x (λ q. omega arith) one in
+      let three = past (badCentre W H s) 3 _ y x (λ q. omega arith) two in
+      let four = past (badShears s) 4 _ y x (λ q. omega arith) three in
+      let five = past (badKernel (s .kernel)) 5 _ y x (λ q. omega arith) four in
+      let twelve = past (badBackground (s .border)) 12 _ y x (λ q. omega arith) five in
+      first-bad range W H picture y x .0 (found (firstBad range W H picture) y x twelve)
     where
-      past : (t : Bool) (number : ℕ) (later : Verdict) (y x : ℕ) → number < 6 → refusedIf t number later ≡ Refused 6 y x → later ≡ Refused 6 y x
-      past true number later y x l e = let z : number ≡ 6 = cc in absurd (omega arith)
+      past : (t : Bool) (number : ℕ) (later : Verdict) (y x : ℕ) → (number ≡ 6 → ⊥) → refusedIf t number later ≡ Refused 6 y x → later ≡ Refused 6 y x
+      past true number later y x l e = absurd (l cc)
       past false number later y x l e = e
 
       found : (f : Found) (y x : ℕ) → ofFound f ≡ Refused 6 y x → f ≡ At y x
@@ -138,4 +146,4 @@ module _ (W H : ℕ) (s : Setting) (picture : List ℤ) (result work : ℕ) wher
   unfolding judged
   refused-zero =
       zero-if (badSize W H) 1 _ (zero-if (tooShort W H (length picture) result work) 2 _ (zero-if (badCentre W H s) 3 _ (zero-if (badShears s) 4 _
-      (zero-if (badKernel (s .kernel)) 5 _ (zero-found (firstBad range W H picture))))))
+      (zero-if (badKernel (s .kernel)) 5 _ (zero-if (badBackground (s .border)) 12 _ (zero-found (firstBad range W H picture)))))))

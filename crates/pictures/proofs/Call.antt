@@ -12,6 +12,7 @@ use Rattle.refusals.specs.declared.Verdict.the-variants.{Accepted, Refused}
 use Rattle.refusals.specs.Judging as verdict
 use Rattle.refusals.proofs.First.{BadAt}
 use Rattle.settings.specs.declared.Setting.{Setting}
+use Rattle.settings.specs.declared.Border.{Border}
 use Rattle.kernels.specs.Kernel.{Kernel}
 use Rattle.passes.specs.Picture.{picture, straighten, Places, rows-moved}
 use Rattle.passes.specs.Count.{count}
@@ -29,29 +30,29 @@ use Rattle.pictures.specs.declared.Outcome.the-variants as variants
 use Rattle.pictures.proofs.Accepted.{accepted-fit, fit-range, refused-sample, refused-zero}
 
 -- ---- the places of the picture after its first W·H are not read
-module _ (κ : Kernel) (W H : ℕ) (rows columns : ℕ → ℤ) (s : List ℤ) (hW : 0 < W) (hH : 0 < H) where
+module _ (β : Border) (κ : Kernel) (W H : ℕ) (rows columns : ℕ → ℤ) (s : List ℤ) (hW : 0 < W) (hH : 0 < H) where
   places-same : Places W H (λ y x. picture W (take (W * H) s) y x ≡ picture W s y x)
   unfolding picture
   places-same y x hy hx = getD-take (W * H) s (y * W + x) (pos 0) (inside W H y x hy hx)
 
-  first-same : rows-pass κ W H rows (take (W * H) s) ≡ rows-pass κ W H rows s
+  first-same : rows-pass β κ W H rows (take (W * H) s) ≡ rows-pass β κ W H rows s
   unfolding rows-pass
   first-same =
-      pictured-same (rows-moved κ W rows (picture W (take (W * H) s))) (rows-moved κ W rows (picture W s)) hW
-      (λ y x hy hx. moved-row-alone κ W rows (picture W (take (W * H) s)) (picture W s) y hW (λ k l. places-same y k hy l) x)
+      pictured-same (rows-moved β κ W rows (picture W (take (W * H) s))) (rows-moved β κ W rows (picture W s)) hW
+      (λ y x hy hx. moved-row-alone β κ W rows (picture W (take (W * H) s)) (picture W s) y hW (λ k l. places-same y k hy l) x)
 
-  pub straighten-takes : straighten κ W H rows columns (take (W * H) s) ≡ straighten κ W H rows columns s
+  pub straighten-takes : straighten β κ W H rows columns (take (W * H) s) ≡ straighten β κ W H rows columns s
   straighten-takes =
-      straighten-stages κ rows columns (take (W * H) s) hW hH
-      ∙ ap (λ (t : List ℤ). rows-pass κ W H rows (columns-pass κ W H columns t)) first-same
-      ∙ sym (straighten-stages κ rows columns s hW hH)
+      straighten-stages β κ rows columns (take (W * H) s) hW hH
+      ∙ ap (λ (t : List ℤ). rows-pass β κ W H rows (columns-pass β κ W H columns t)) first-same
+      ∙ sym (straighten-stages β κ rows columns s hW hH)
 
-  pub straighten-length : length (straighten κ W H rows columns s) ≡ W * H
-  straighten-length = ap length (straighten-stages κ rows columns s hW hH) ∙ rows-pass-length κ W H rows _
+  pub straighten-length : length (straighten β κ W H rows columns s) ≡ W * H
+  straighten-length = ap length (straighten-stages β κ rows columns s hW hH) ∙ rows-pass-length β κ W H rows _
 
 -- ---- the picture's copy, and the part of work that is lent, are fit too
 pub copy-fit : {W H : ℕ} {s : Setting} {picture : List ℤ} {result work : ℕ} (copy : List ℤ) (room : ℕ) → Fit W H s picture result work
-    → copy ≡ take (W * H) picture → 4 * max W H ≤ room → Fit W H s copy (length copy) room
+    → copy ≡ take (W * H) picture → 12 * max W H ≤ room → Fit W H s copy (length copy) room
 copy-fit {W} {H} {s} {picture} copy room f e big =
     record {
       width = f .width;
@@ -62,6 +63,7 @@ copy-fit {W} {H} {s} {picture} copy room f e big =
       centre = f .centre;
       shears = f .shears;
       kernel = f .kernel;
+      background = f .background;
       samples = λ i l. rw (e, getD-take (W * H) picture i (pos 0) l) (f .samples i l);
     }
   where
@@ -87,9 +89,9 @@ module _ (W H : ℕ) (s : Setting) (picture result work : List ℤ) where
       }
 
   pub accepted-answer : (lines : ℕ) (result′ work′ : List ℤ) → verdictOf W H s picture result work ≡ Accepted
-      → lines ≡ count W H (rowMoves s) (columnMoves s)
-      → result′ ≡ straighten (kernelIn s) W H (rowMoves s) (columnMoves s) (take (W * H) picture) ++ drop (W * H) result
-      → work′ ≡ replicate (4 * max W H) (pos 0) ++ drop (4 * max W H) work
+      → lines ≡ count (s .border) W H (rowMoves s) (columnMoves s)
+      → result′ ≡ straighten (s .border) (kernelIn s) W H (rowMoves s) (columnMoves s) (take (W * H) picture) ++ drop (W * H) result
+      → work′ ≡ replicate (12 * max W H) (pos 0) ++ drop (12 * max W H) work
       → Answer W H s picture result work (variants.Straightened lines) result′ work′
   accepted-answer lines result′ work′ e counted done zero =
       record {
@@ -98,15 +100,18 @@ module _ (W H : ℕ) (s : Setting) (picture result work : List ℤ) where
         row = rw e refl;
         column = rw e refl;
         count = rw e counted;
-        few = omega (arith, counted, count-bound W H (s .cx) (s .cy) (s .a) (s .b) (f .centre .0) (f .centre .1));
+        few = omega (arith, counted, count-bound (s .border) W H (s .cx) (s .cy) (s .a) (s .b) (f .centre .0) (f .centre .1));
         written = rw e done;
-        readable = λ a i l. rw (sym (getD-take (W * H) result′ i (pos 0) l), first) (straighten-size κ rows columns picture (f .width .0) (f .height .0) in-range i l);
+        readable = λ a i l. rw (sym (getD-take (W * H) result′ i (pos 0) l), first) (straighten-size β κ rows columns picture (f .width .0) (f .height .0) (f .background) in-range i l);
         cleared = rw e zero;
-        demand3 = λ a. subst (Demand3 κ W H rows columns picture) (sym first) (straighten-demand3 κ W H rows columns picture (f .width .0) (f .height .0) in-range);
+        demand3 = λ a. subst (Demand3 β κ W H rows columns picture) (sym first) (straighten-demand3 β κ W H rows columns picture (f .width .0) (f .height .0) (f .background) in-range);
       }
     where
       f : Fit W H s picture (length result) (length work)
       f = accepted-fit W H s picture (length result) (length work) e
+
+      β : Border
+      β = s .border
 
       κ : Kernel
       κ = kernelIn s
@@ -120,11 +125,11 @@ module _ (W H : ℕ) (s : Setting) (picture result work : List ℤ) where
       in-range : (i : ℕ) → i < W * H → natAbs (line picture i) ≤ 32767
       in-range = fit-range f
 
-      first : take (W * H) result′ ≡ straighten κ W H rows columns picture
+      first : take (W * H) result′ ≡ straighten β κ W H rows columns picture
       first =
           ap (take (W * H)) done
-          ∙ take-at (straighten κ W H rows columns (take (W * H) picture)) (drop (W * H) result) (W * H) (straighten-length κ W H rows columns (take (W * H) picture) (f .width .0) (f .height .0))
-          ∙ straighten-takes κ W H rows columns picture (f .width .0) (f .height .0)
+          ∙ take-at (straighten β κ W H rows columns (take (W * H) picture)) (drop (W * H) result) (W * H) (straighten-length β κ W H rows columns (take (W * H) picture) (f .width .0) (f .height .0))
+          ∙ straighten-takes β κ W H rows columns picture (f .width .0) (f .height .0)
 
 -- ---- the row and the column of an answer: those of the first sample beyond the range, in row order, under 6, and 0 otherwise
 six : (v : Verdict) → verdict.numberOf v ≡ 6 → v ≡ Refused 6 (verdict.rowOf v) (verdict.columnOf v)

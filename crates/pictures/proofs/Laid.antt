@@ -3,13 +3,15 @@ use Prim.Native.Nat.{ℕ, zero, suc, _+_, _*_, _-_, _≤_, _<_}
 use mathlib.Core.Path.{_≡_, refl, sym, ap, _∙_}
 use mathlib.Core.List.{List}
 use native.Mathlib.Numerals.{add-one}
-use native.Mathlib.Nat.{add-zero, add-mul}
+use mathlib.Core.Logic.{⊎-elim}
+use native.Mathlib.Nat.{add-zero, add-mul, not-suc-le-zero, eq-or-lt-of-le, le-of-suc-le-suc}
 use native.Mathlib.Omega.{arith}
-use lib.ListN.{set, length}
+use lib.ListN.{set, length, getD}
 use lib.Seq.{set-comm}
-use lib.IntN.{ℤ}
+use lib.IntN.{ℤ, pos}
 use Rattle.lists.specs.Grid.{lineOf, put, passed, Lines}
-use Rattle.lists.proofs.Grid.{put-cong, lineOf-cong, lines-within, ahead, passed-more}
+use Rattle.lists.proofs.Rows.{row-in}
+use Rattle.lists.proofs.Grid.{put-cong, put-length, put-same, put-other, one-place, lineOf-cong, lines-within, ahead, passed-more}
 use Rattle.pictures.specs.Four.{laid}
 
 pub laid-none : (at along across n : ℕ) (g : ℕ → ℕ → ℤ) (pic : List ℤ) → pic ≡ laid at along across n g 0 pic
@@ -94,6 +96,54 @@ module _ (at along across size : ℕ) (g : ℕ → ℕ → ℤ) (pic : List ℤ)
   unfolding laid placed
   laid-turned zero m h = empty m
   laid-turned (suc n) m h = wider n m h ∙ ap (placed n m) (laid-turned n m (lines-within (omega arith) (omega arith) h))
+
+-- ---- lines laid in rows of m places, each from place `first` of its row on: what stands where
+pub laid-length : (at along across n : ℕ) (g : ℕ → ℕ → ℤ) (m : ℕ) (pic : List ℤ) → length (laid at along across n g m pic) ≡ length pic
+unfolding laid
+laid-length at along across n g zero pic = refl
+laid-length at along across n g (suc m) pic = put-length (at + m * across) along (g m) n _ ∙ laid-length at along across n g m pic
+
+module _ (first m n : ℕ) (g : ℕ → ℕ → ℤ) (work : List ℤ) (fits : first + n ≤ m) where
+  pub laid-in : (rows i k : ℕ) → i < rows → k < n → rows * m ≤ length work → getD (laid first 1 m n g rows work) (i * m + (first + k)) (pos 0) ≡ g i k
+  unfolding laid
+  laid-in zero i k l h room = absurd (not-suc-le-zero l)
+  laid-in (suc rows) i k l h room =
+      ⊎-elim
+      (λ (e : i ≡ rows).
+      rw e
+      (ap (λ (p : ℕ). getD (put (first + rows * m) 1 (g rows) n before) p (pos 0)) (place rows)
+      ∙ put-same (first + rows * m) 1 (g rows) n before k h (λ j b. rw before-length (omega (arith, row-in m (suc rows) rows (omega arith)))) (λ a b c d q. omega arith)))
+      (λ (lt : i < rows).
+      put-other (first + rows * m) 1 (g rows) n before (i * m + (first + k))
+      (λ j b e. other lt (one-place m i rows (first + k) (first + j) (omega arith) (omega arith) (e ∙ order rows j) .0))
+      ∙ laid-in rows i k lt h (omega (arith, row-in m (suc rows) rows (omega arith))))
+      (eq-or-lt-of-le (le-of-suc-le-suc l))
+    where
+      before : List ℤ
+      before = laid first 1 m n g rows work
+
+      before-length : length before ≡ length work
+      before-length = laid-length first 1 m n g rows work
+
+      place : (rows : ℕ) → rows * m + (first + k) ≡ first + rows * m + k * 1
+      place rows = omega arith
+
+      order : (rows j : ℕ) → first + rows * m + j * 1 ≡ rows * m + (first + j)
+      order rows j = omega arith
+
+      other : i < rows → i ≡ rows → ⊥
+      other a e = omega arith
+
+  pub laid-out : (rows i j : ℕ) → j < m → ((k : ℕ) → k < n → j ≡ first + k → ⊥) → getD (laid first 1 m n g rows work) (i * m + j) (pos 0) ≡ getD work (i * m + j) (pos 0)
+  unfolding laid
+  laid-out zero i j l out = refl
+  laid-out (suc rows) i j l out =
+      put-other (first + rows * m) 1 (g rows) n _ (i * m + j)
+      (λ k b e. out k b (one-place m i rows j (first + k) l (omega arith) (e ∙ order rows k) .1))
+      ∙ laid-out rows i j l out
+    where
+      order : (rows k : ℕ) → first + rows * m + k * 1 ≡ rows * m + (first + k)
+      order rows k = omega arith
 
 -- ---- after the first y lines were replaced, the next m may be, all from the picture as it stands then
 module _ (n lines along across : ℕ) (f : ℕ → List ℤ → ℕ → ℤ) (pic : List ℤ) (g : Lines n lines along across (length pic)) where

@@ -11,11 +11,11 @@ use lib.Signed.{leZ-yes}
 use Rattle.arith.proofs.Within.{Within, within-size, size-within, widen}
 use Rattle.lists.specs.Line.{Line, line}
 use Rattle.lists.specs.Grid.{lineOf, Lines}
-use Rattle.lists.proofs.Tab.{tab-at}
 use Rattle.lists.proofs.Grid.{lineOf-at, lineOf-length, behind, passed-length, row-lines, column-lines}
+use Rattle.settings.specs.declared.Border.{Border}
 use Rattle.kernels.specs.Kernel.{Kernel}
-use Rattle.lines.specs.Move.{moved, move}
-use Rattle.lines.proofs.Rules.{moved-local}
+use Rattle.lines.specs.Border.{bordered, grey}
+use Rattle.lines.proofs.Border.{bordered-local, moveIn-at}
 use Rattle.passes.specs.Picture.{Picture, picture, pictured, turned, Places, rows-moved, after-one, after-two}
 use Rattle.passes.proofs.Places.{inside, length-pictured, pictured-at, picture-at, at-index}
 use Rattle.passes.proofs.Stages.{rows-pass, columns-pass, one, two}
@@ -23,15 +23,15 @@ use Rattle.exact.proofs.Passes.{after-one-range, after-two-range}
 use Rattle.pictures.specs.Pass.{movedAt, linesMoved}
 
 -- ---- every line of one direction is its moved line
-module _ (κ : Kernel) (moves : ℕ → ℤ) {n lines along across : ℕ} (pic : List ℤ) (g : Lines n lines along across (length pic)) (some : 0 < n) where
+module _ (β : Border) (κ : Kernel) (moves : ℕ → ℤ) {n lines along across : ℕ} (pic : List ℤ) (g : Lines n lines along across (length pic)) (some : 0 < n) where
   pub lines-moved-at : (p : Picture) → Places n lines (λ y k. getD pic (y * across + k * along) (pos 0) ≡ p y k)
-      → Places n lines (λ y k. getD (linesMoved κ moves n along across lines pic) (y * across + k * along) (pos 0) ≡ rows-moved κ n moves p y k)
-  unfolding rows-moved move
+      → Places n lines (λ y k. getD (linesMoved β κ moves n along across lines pic) (y * across + k * along) (pos 0) ≡ rows-moved β κ n moves p y k)
+  unfolding rows-moved
   lines-moved-at p holds y k hy hk =
-      behind n lines along across (movedAt κ moves) (length pic) g lines pic y hy (omega arith) refl k hk
-      ∙ tab-at (moved κ (length s) (moves y) (line s)) (length s) k (pos 0) (omega (arith, len))
-      ∙ ap (λ (m : ℕ). moved κ m (moves y) (line s) k) len
-      ∙ ap (λ (f : Line). f k) (moved-local some (λ j l. lineOf-at (y * across) along n pic j l ∙ holds y j hy l) κ (moves y))
+      behind n lines along across (movedAt β κ moves) (length pic) g lines pic y hy (omega arith) refl k hk
+      ∙ moveIn-at β κ (moves y) s k (omega (arith, len))
+      ∙ ap (λ (m : ℕ). bordered β κ m (moves y) (line s) k) len
+      ∙ ap (λ (f : Line). f k) (bordered-local β some (λ j l. lineOf-at (y * across) along n pic j l ∙ holds y j hy l) κ (moves y))
     where
       s : List ℤ
       s = lineOf (y * across) along n pic
@@ -47,34 +47,38 @@ listed {W} {H} s p h long holds =
     (λ i l. sym (picture-at W s i) ∙ at-index (λ y x. picture W s y x ≡ p y x) h holds i (omega (arith, long)) ∙ sym (pictured-at W H p i (omega (arith, long))))
 
 -- ---- so a pass with the strides of rows is the pass over rows, and one with those of columns the pass over columns
-module _ (κ : Kernel) (moves : ℕ → ℤ) {W H : ℕ} (s : List ℤ) (hW : 0 < W) (hH : 0 < H) (long : length s ≡ W * H) where
+module _ (β : Border) (κ : Kernel) (moves : ℕ → ℤ) {W H : ℕ} (s : List ℤ) (hW : 0 < W) (hH : 0 < H) (long : length s ≡ W * H) where
   fits : H * W ≤ length s
   fits = omega (arith, long, mul-comm W H)
 
-  in-rows : Places W H (λ y x. getD (linesMoved κ moves W 1 W H s) (y * W + x) (pos 0) ≡ rows-moved κ W moves (picture W s) y x)
+  in-rows : Places W H (λ y x. getD (linesMoved β κ moves W 1 W H s) (y * W + x) (pos 0) ≡ rows-moved β κ W moves (picture W s) y x)
   in-rows y x hy hx =
-      ap (λ (k : ℕ). getD (linesMoved κ moves W 1 W H s) (y * W + k) (pos 0)) (sym (mul-one x))
-      ∙ lines-moved-at κ moves s (row-lines W H (length s) fits) hW (picture W s) (λ y k hy hk. unfold picture in ap (λ (j : ℕ). getD s (y * W + j) (pos 0)) (mul-one k)) y x hy hx
+      ap (λ (k : ℕ). getD (linesMoved β κ moves W 1 W H s) (y * W + k) (pos 0)) (sym (mul-one x))
+      ∙ lines-moved-at β κ moves s (row-lines W H (length s) fits) hW (picture W s) (λ y k hy hk. unfold picture in ap (λ (j : ℕ). getD s (y * W + j) (pos 0)) (mul-one k)) y x hy hx
 
-  in-columns : Places W H (λ y x. getD (linesMoved κ moves H W 1 W s) (y * W + x) (pos 0) ≡ turned (rows-moved κ H moves (turned (picture W s))) y x)
+  in-columns : Places W H (λ y x. getD (linesMoved β κ moves H W 1 W s) (y * W + x) (pos 0) ≡ turned (rows-moved β κ H moves (turned (picture W s))) y x)
   in-columns y x hy hx =
-      ap (λ (k : ℕ). getD (linesMoved κ moves H W 1 W s) k (pos 0)) (cross x y)
-      ∙ lines-moved-at κ moves s (column-lines W H (length s) fits) hH (turned (picture W s)) (λ x k hx hk. unfold picture in ap (λ (j : ℕ). getD s j (pos 0)) (sym (cross x k))) x y hx hy
+      ap (λ (k : ℕ). getD (linesMoved β κ moves H W 1 W s) k (pos 0)) (cross x y)
+      ∙ lines-moved-at β κ moves s (column-lines W H (length s) fits) hH (turned (picture W s)) (λ x k hx hk. unfold picture in ap (λ (j : ℕ). getD s j (pos 0)) (sym (cross x k))) x y hx hy
     where
       cross : (x y : ℕ) → y * W + x ≡ x * 1 + y * W
       cross x y = omega arith
 
-  pub rows-strided : linesMoved κ moves W 1 W H s ≡ rows-pass κ W H moves s
+  pub rows-strided : linesMoved β κ moves W 1 W H s ≡ rows-pass β κ W H moves s
   unfolding rows-pass
-  rows-strided = listed (linesMoved κ moves W 1 W H s) (rows-moved κ W moves (picture W s)) hW (passed-length W H 1 W (movedAt κ moves) H s ∙ long) in-rows
+  rows-strided = listed (linesMoved β κ moves W 1 W H s) (rows-moved β κ W moves (picture W s)) hW (passed-length W H 1 W (movedAt β κ moves) H s ∙ long) in-rows
 
-  pub columns-strided : linesMoved κ moves H W 1 W s ≡ columns-pass κ W H moves s
+  pub columns-strided : linesMoved β κ moves H W 1 W s ≡ columns-pass β κ W H moves s
   unfolding columns-pass
   columns-strided =
-      listed (linesMoved κ moves H W 1 W s) (turned (rows-moved κ H moves (turned (picture W s)))) hW (passed-length H W W 1 (movedAt κ moves) W s ∙ long) in-columns
+      listed (linesMoved β κ moves H W 1 W s) (turned (rows-moved β κ H moves (turned (picture W s)))) hW (passed-length H W W 1 (movedAt β κ moves) W s ∙ long) in-columns
 
 -- ---- what each of the three passes is handed is within a line's range
-module _ (κ : Kernel) {W H : ℕ} (rows columns : ℕ → ℤ) (s : List ℤ) (hW : 0 < W) (hH : 0 < H) (range : (i : ℕ) → i < W * H → natAbs (line s i) ≤ 32767) where
+module _ (β : Border) (κ : Kernel) {W H : ℕ} (rows columns : ℕ → ℤ) (s : List ℤ) (hW : 0 < W) (hH : 0 < H)
+    (plain : natAbs (grey β) ≤ 32767) (range : (i : ℕ) → i < W * H → natAbs (line s i) ≤ 32767) where
+  outer : Within (pos 32767) (grey β)
+  outer = size-within (grey β) 32767 plain
+
   -- the samples, as a picture
   sample-range : Places W H (λ y x. Within (pos 32767) (picture W s y x))
   unfolding picture
@@ -97,9 +101,9 @@ module _ (κ : Kernel) {W H : ℕ} (rows columns : ℕ → ℤ) (s : List ℤ) (
   pub first-range : Places W H (λ y k. natAbs (getD s (y * W + k * 1) (pos 0)) ≤ 294912)
   first-range = by-rows s (picture W s) (λ y x hy hx. refl) (λ y x hy hx. widen (pos 32767) (pos 294912) (picture W s y x) (sample-range y x hy hx) (leZ-yes tt))
 
-  pub second-range : Places H W (λ x k. natAbs (getD (rows-pass κ W H rows s) (x * 1 + k * W) (pos 0)) ≤ 294912)
-  second-range = by-columns (rows-pass κ W H rows s) (after-one κ W rows (picture W s)) (one κ rows columns s hW hH) (after-one-range κ rows columns hW hH sample-range)
+  pub second-range : Places H W (λ x k. natAbs (getD (rows-pass β κ W H rows s) (x * 1 + k * W) (pos 0)) ≤ 294912)
+  second-range = by-columns (rows-pass β κ W H rows s) (after-one β κ W rows (picture W s)) (one β κ rows columns s hW hH) (after-one-range β κ rows columns hW hH outer sample-range)
 
-  pub third-range : Places W H (λ y k. natAbs (getD (columns-pass κ W H columns (rows-pass κ W H rows s)) (y * W + k * 1) (pos 0)) ≤ 294912)
+  pub third-range : Places W H (λ y k. natAbs (getD (columns-pass β κ W H columns (rows-pass β κ W H rows s)) (y * W + k * 1) (pos 0)) ≤ 294912)
   third-range =
-      by-rows (columns-pass κ W H columns (rows-pass κ W H rows s)) (after-two κ W H rows columns (picture W s)) (two κ rows columns s hW hH) (after-two-range κ rows columns hW hH sample-range)
+      by-rows (columns-pass β κ W H columns (rows-pass β κ W H rows s)) (after-two β κ W H rows columns (picture W s)) (two β κ rows columns s hW hH) (after-two-range β κ rows columns hW hH outer sample-range)

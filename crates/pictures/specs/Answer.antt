@@ -57,20 +57,20 @@ verdictOf W H s picture result work = judged W H s picture (length result) (leng
 -- The full answer of a call that lends `picture`, `result` and `work` as they are at entry: r is its outcome, and result′ and work′ are the
 -- buffers at exit. Refused, it says its number, row and column, and both buffers stay as they were. Accepted, it counts the lines
 -- interpolated, at most 2(H-1) + (W-1); the first W·H places of the result hold the three passes of the picture, within the ±1,048,576 that
--- every reading takes; the first 4·max(W, H) places of work hold 0; and the result keeps demand 3, worked out from the picture and the
+-- every reading takes; the first 12·max(W, H) places of work hold 0; and the result keeps demand 3, worked out from the picture and the
 -- setting as they were handed in.
 pub record Answer (W H : ℕ) (s : Setting) (picture result work : List ℤ) (r : Outcome) (result′ work′ : List ℤ) : Type 0 where
-  pub outcome : r ≡ outcomeOf (verdictOf W H s picture result work) (count W H (rowMoves s) (columnMoves s))
+  pub outcome : r ≡ outcomeOf (verdictOf W H s picture result work) (count (s .border) W H (rowMoves s) (columnMoves s))
   pub number : numberOf r ≡ verdict.numberOf (verdictOf W H s picture result work)
   pub row : rowOf r ≡ verdict.rowOf (verdictOf W H s picture result work)
   pub column : columnOf r ≡ verdict.columnOf (verdictOf W H s picture result work)
-  pub count : countOf r ≡ whenAccepted (verdictOf W H s picture result work) (count W H (rowMoves s) (columnMoves s)) 0
+  pub count : countOf r ≡ whenAccepted (verdictOf W H s picture result work) (count (s .border) W H (rowMoves s) (columnMoves s)) 0
   pub few : countOf r ≤ 2 * (H - 1) + (W - 1)
   pub written : result′
       ≡ whenAccepted (verdictOf W H s picture result work)
-      (straighten (kernelIn s) W H (rowMoves s) (columnMoves s) (take (W * H) picture) ++ drop (W * H) result)
+      (straighten (s .border) (kernelIn s) W H (rowMoves s) (columnMoves s) (take (W * H) picture) ++ drop (W * H) result)
       result
   pub readable : verdictOf W H s picture result work ≡ Accepted → AllWithin 1048576 (W * H) result′
-  pub cleared : work′ ≡ whenAccepted (verdictOf W H s picture result work) (replicate (4 * max W H) (pos 0) ++ drop (4 * max W H) work) work
+  pub cleared : work′ ≡ whenAccepted (verdictOf W H s picture result work) (replicate (12 * max W H) (pos 0) ++ drop (12 * max W H) work) work
   pub demand3 : verdictOf W H s picture result work ≡ Accepted
-      → Demand3 (kernelIn s) W H (rowMoves s) (columnMoves s) picture (take (W * H) result′)
+      → Demand3 (s .border) (kernelIn s) W H (rowMoves s) (columnMoves s) picture (take (W * H) result′)

@@ -1,13 +1,17 @@
-// Four neighbouring lines of a picture, carried to the work buffer and back. In the buffer they lie one after the other, n places each. In
-// the picture the first starts at `at`, each of the others `across` places after the one before it, and the places of a line are `along`
-// apart. Columns go place by place, so that each cache line of the picture serves four of them; rows go line by line, in straight runs,
-// which takes a third off a linear pass.
+// Four neighbouring lines of a picture, carried to the work buffer and back. In the buffer they lie one after the other, in rows of n places, or
+// of 3n where they stand between background samples. In the picture the first starts at `at`, each of the others `across` places after the one
+// before it, and the places of a line are `along` apart. Columns go place by place, so that each cache line of the picture serves four of them;
+// rows go line by line, in straight runs, which takes a third off a linear pass.
 ghost use mathlib.Core.Path.{_≡_};
 ghost use Prim.Native.Nat.{ℕ, _+_, _*_, _-_, _%_, _<_, _≤_};
 ghost use lib.IntN.{pos};
 ghost use lib.ListN.{length, getD};
-ghost use Rattle.lists.specs.Grid.{put, Lines};
-ghost use Rattle.pictures.specs.Four.{FourLoaded, fourStored};
+ghost use Rattle.lists.specs.Grid.{put, rowOf, Lines};
+ghost use Rattle.pictures.specs.Four.{laid, FourLoaded, fourStored};
+ghost use Rattle.lines.specs.Row.{places, Holds, Framed};
+ghost use Rattle.settings.specs.declared.Border.the-variants.{Background};
+use lines::Part;
+use settings::Border;
 
 // Four places of `from` to four places of `to`: place p + i·step + j[i] goes to place q + i·stride, for i from 0 to 3.
 fn copy_four(
@@ -30,52 +34,136 @@ fn copy_four(
     }
 }
 
-// Four lines into the first 4·n places of work, place by place.
-fn load_places(picture: &[i32], at: usize, along: usize, across: usize, work: &mut [i32], n: usize)
-    requires { ⌜ 4 * n ≤ length (now work) ⌝ }
-    requires { ⌜ Lines n 4 along across (length (now picture) - at) ⌝ }
-    ensures { λ _. ⌜ FourLoaded at along across n (now (picture .entry)) (now (work .exit)) ⌝ }
-{
-    let mut k: usize = 0;
-    while k < n {
-        copy_four(picture, at + k * along, across, [0; 4], work, k, n);
-        k += 1;
-    }
-}
-
-// The same line by line.
-fn load_lines(picture: &[i32], at: usize, along: usize, across: usize, work: &mut [i32], n: usize)
-    requires { ⌜ (1 ≤ n) × (4 * n ≤ length (now work)) ⌝ }
-    requires { ⌜ Lines n 4 along across (length (now picture) - at) ⌝ }
-    ensures { λ _. ⌜ FourLoaded at along across n (now (picture .entry)) (now (work .exit)) ⌝ }
-{
-    let mut i: usize = 0;
-    while i < 4 {
-        let s = i * n;
-        let e = s + n;
-        lists::load_line(picture, at + i * across, along, &mut work[s..e]);
-        i += 1;
-    }
-}
-
-// Four lines into the first 4·n places of work.
-pub fn load_four(
+// Four lines of n places into work, place by place: line i to the places from `first` + i·m on.
+fn gather(
     picture: &[i32],
     at: usize,
     along: usize,
     across: usize,
     work: &mut [i32],
     n: usize,
+    first: usize,
+    m: usize,
 )
-    requires { ⌜ (1 ≤ n) × (4 * n ≤ length (now work)) ⌝ }
+    requires { ⌜ (first + n ≤ m) × (4 * m ≤ length (now work)) ⌝ }
     requires { ⌜ Lines n 4 along across (length (now picture) - at) ⌝ }
-    ensures { λ _. ⌜ FourLoaded at along across n (now (picture .entry)) (now (work .exit)) ⌝ }
+    ensures { λ _. ⌜ now (work .exit) ≡ laid first 1 m n (λ i k. getD (now (picture .entry)) (at + i * across + k * along) (pos 0)) 4 (now (work .entry)) ⌝ }
+{
+    let mut k: usize = 0;
+    while k < n {
+        copy_four(picture, at + k * along, across, [0; 4], work, first + k, m);
+        k += 1;
+    }
+}
+
+// Background of the value b on both sides of the middle n places of four rows of 3n, as far as the part goes.
+fn frame_four(work: &mut [i32], n: usize, b: i32, part: Part)
+    requires { ⌜ (n ≤ 1024) × (12 * n ≤ length (now work)) × Holds (Background b) n part ⌝ }
+    ensures { λ _. ⌜ ((i : ℕ) → i < 4 → Framed n b part (rowOf (3 * n) (now (work .exit)) i)) ⌝ }
+{
+    let m = 3 * n;
+    let mut i: usize = 0;
+    while i < 4 {
+        let s = i * m;
+        let e = s + m;
+        lines::frame(&mut work[s..e], n, b, part);
+        i += 1;
+    }
+}
+
+// Four lines into the middle of rows of 3n places, between background of the value b.
+fn gather_between(
+    b: i32,
+    picture: &[i32],
+    at: usize,
+    along: usize,
+    across: usize,
+    work: &mut [i32],
+    n: usize,
+    part: Part,
+)
+    requires { ⌜ (1 ≤ n) × (n ≤ 1024) × (12 * n ≤ length (now work)) × Holds (Background b) n part ⌝ }
+    requires { ⌜ Lines n 4 along across (length (now picture) - at) ⌝ }
+    ensures { λ _. ⌜ FourLoaded (Background b) at along across n part (now (picture .entry)) (now (work .exit)) ⌝ }
+{
+    frame_four(work, n, b, part);
+    gather(picture, at, along, across, work, n, n, 3 * n);
+}
+
+// Four lines into work, place by place, each set in as its border has it, as far as the part goes.
+fn load_places(
+    border: Border,
+    picture: &[i32],
+    at: usize,
+    along: usize,
+    across: usize,
+    work: &mut [i32],
+    n: usize,
+    part: Part,
+)
+    requires { ⌜ (1 ≤ n) × (n ≤ 1024) × (4 * places border n ≤ length (now work)) × Holds border n part ⌝ }
+    requires { ⌜ Lines n 4 along across (length (now picture) - at) ⌝ }
+    ensures { λ _. ⌜ FourLoaded border at along across n part (now (picture .entry)) (now (work .exit)) ⌝ }
+{
+    match border {
+        Border::Wrapped => gather(picture, at, along, across, work, n, 0, n),
+        Border::Background(b) => gather_between(b, picture, at, along, across, work, n, part),
+    }
+}
+
+// The same line by line.
+fn load_lines(
+    border: Border,
+    picture: &[i32],
+    at: usize,
+    along: usize,
+    across: usize,
+    work: &mut [i32],
+    n: usize,
+    part: Part,
+)
+    requires { ⌜ (1 ≤ n) × (n ≤ 1024) × (4 * places border n ≤ length (now work)) × Holds border n part ⌝ }
+    requires { ⌜ Lines n 4 along across (length (now picture) - at) ⌝ }
+    ensures { λ _. ⌜ FourLoaded border at along across n part (now (picture .entry)) (now (work .exit)) ⌝ }
+{
+    let m = lines::places_of(border, n);
+    let mut i: usize = 0;
+    while i < 4 {
+        let s = i * m;
+        let e = s + m;
+        lines::set_in(
+            border,
+            picture,
+            at + i * across,
+            along,
+            &mut work[s..e],
+            n,
+            part,
+        );
+        i += 1;
+    }
+}
+
+// Four lines into work, each set in as its border has it, as far as the part of its row goes.
+pub fn load_four(
+    border: Border,
+    picture: &[i32],
+    at: usize,
+    along: usize,
+    across: usize,
+    work: &mut [i32],
+    n: usize,
+    part: Part,
+)
+    requires { ⌜ (1 ≤ n) × (n ≤ 1024) × (4 * places border n ≤ length (now work)) × Holds border n part ⌝ }
+    requires { ⌜ Lines n 4 along across (length (now picture) - at) ⌝ }
+    ensures { λ _. ⌜ FourLoaded border at along across n part (now (picture .entry)) (now (work .exit)) ⌝ }
 {
     if along == 1 {
-        load_lines(picture, at, 1, across, work, n);
+        load_lines(border, picture, at, 1, across, work, n, part);
         return;
     }
-    load_places(picture, at, along, across, work, n);
+    load_places(border, picture, at, along, across, work, n, part);
 }
 
 // The place after each of four, in lines of n.
@@ -90,7 +178,7 @@ fn after_four(j: [usize; 4], n: usize) -> [usize; 4]
     [first, second, third, fourth]
 }
 
-// Four lines of work go back to the picture, place by place, line i turned by turns[i]: its place k gets place k + turns[i].
+// Four lines of work go back to the picture, place by place: place k of line i gets place k + starts[i] of row i, modulo its m places.
 fn store_places(
     picture: &mut [i32],
     at: usize,
@@ -98,18 +186,19 @@ fn store_places(
     across: usize,
     work: &[i32],
     n: usize,
-    turns: [usize; 4],
+    m: usize,
+    starts: [usize; 4],
 )
-    requires { ⌜ 4 * n ≤ length (now work) ⌝ }
+    requires { ⌜ (n ≤ m) × (4 * m ≤ length (now work)) ⌝ }
     requires { ⌜ Lines n 4 along across (length (now picture) - at) ⌝ }
-    requires { ⌜ ((i : ℕ) → i < 4 → getD turns i 0 < n) ⌝ }
-    ensures { λ _. ⌜ now (picture .exit) ≡ fourStored at along across n (now (work .entry)) turns (now (picture .entry)) ⌝ }
+    requires { ⌜ ((i : ℕ) → i < 4 → getD starts i 0 < m) ⌝ }
+    ensures { λ _. ⌜ now (picture .exit) ≡ fourStored at along across n m (now (work .entry)) starts (now (picture .entry)) ⌝ }
 {
-    let mut j = turns;
+    let mut j = starts;
     let mut k: usize = 0;
     while k < n {
-        copy_four(work, 0, n, j, picture, at + k * along, across);
-        let next = after_four(j, n);
+        copy_four(work, 0, m, j, picture, at + k * along, across);
+        let next = after_four(j, m);
         j = next;
         k += 1;
     }
@@ -123,23 +212,24 @@ fn store_lines(
     across: usize,
     work: &[i32],
     n: usize,
-    turns: [usize; 4],
+    m: usize,
+    starts: [usize; 4],
 )
-    requires { ⌜ (1 ≤ n) × (4 * n ≤ length (now work)) ⌝ }
+    requires { ⌜ (1 ≤ n) × (n ≤ m) × (4 * m ≤ length (now work)) ⌝ }
     requires { ⌜ Lines n 4 along across (length (now picture) - at) ⌝ }
-    requires { ⌜ ((i : ℕ) → i < 4 → getD turns i 0 < n) ⌝ }
-    ensures { λ _. ⌜ now (picture .exit) ≡ fourStored at along across n (now (work .entry)) turns (now (picture .entry)) ⌝ }
+    requires { ⌜ ((i : ℕ) → i < 4 → getD starts i 0 < m) ⌝ }
+    ensures { λ _. ⌜ now (picture .exit) ≡ fourStored at along across n m (now (work .entry)) starts (now (picture .entry)) ⌝ }
 {
     let mut i: usize = 0;
     while i < 4 {
-        let s = i * n;
-        let e = s + n;
-        lists::store_line(picture, at + i * across, along, &work[s..e], turns[i]);
+        let s = i * m;
+        let e = s + m;
+        lists::store_line(picture, at + i * across, along, &work[s..e], starts[i], n);
         i += 1;
     }
 }
 
-// Four lines of work go back to the picture, line i turned by turns[i].
+// Four lines of n places get the rows of m places in work, row i from its place starts[i] on.
 pub fn store_four(
     picture: &mut [i32],
     at: usize,
@@ -147,16 +237,17 @@ pub fn store_four(
     across: usize,
     work: &[i32],
     n: usize,
-    turns: [usize; 4],
+    m: usize,
+    starts: [usize; 4],
 )
-    requires { ⌜ (1 ≤ n) × (4 * n ≤ length (now work)) ⌝ }
+    requires { ⌜ (1 ≤ n) × (n ≤ m) × (4 * m ≤ length (now work)) ⌝ }
     requires { ⌜ Lines n 4 along across (length (now picture) - at) ⌝ }
-    requires { ⌜ ((i : ℕ) → i < 4 → getD turns i 0 < n) ⌝ }
-    ensures { λ _. ⌜ now (picture .exit) ≡ fourStored at along across n (now (work .entry)) turns (now (picture .entry)) ⌝ }
+    requires { ⌜ ((i : ℕ) → i < 4 → getD starts i 0 < m) ⌝ }
+    ensures { λ _. ⌜ now (picture .exit) ≡ fourStored at along across n m (now (work .entry)) starts (now (picture .entry)) ⌝ }
 {
     if along == 1 {
-        store_lines(picture, at, 1, across, work, n, turns);
+        store_lines(picture, at, 1, across, work, n, m, starts);
         return;
     }
-    store_places(picture, at, along, across, work, n, turns);
+    store_places(picture, at, along, across, work, n, m, starts);
 }

@@ -1,4 +1,4 @@
-// Whether a call is straightened: the tests of numbers 1 to 6, in their order. Nothing is written.
+// Whether a call is straightened: the tests of numbers 1 to 5, 12 and 6, in their order. Nothing is written.
 ghost use mathlib.Core.Path.{_≡_};
 ghost use Prim.Native.Nat.{_≤_, max};
 ghost use Rattle.pictures.specs.Judge.{tooShort, badCentre, badShears, judged};
@@ -27,7 +27,7 @@ fn too_short(width: usize, height: usize, picture: usize, result: usize, work: u
     if result < places {
         return true;
     }
-    work < 4 * longer(width, height)
+    work < 12 * longer(width, height)
 }
 
 // Number 3: whether the centre is outside the picture.
@@ -44,7 +44,7 @@ fn bad_shears(setting: Setting) -> bool
     refusals::beyond(setting.a, 4096) || refusals::beyond(setting.b, 4096)
 }
 
-// The lowest number that applies, of a call with a result and work of so many places.
+// The number that a call is refused under, with 12 judged after 5 and before 6, of a call with a result and work of so many places.
 pub fn judge(
     width: usize,
     height: usize,
@@ -69,6 +69,10 @@ pub fn judge(
     }
     if 2 < setting.kernel {
         return Verdict::Refused(5, 0, 0);
+    }
+    let border = setting.border;
+    if lines::bad_background(border) {
+        return Verdict::Refused(12, 0, 0);
     }
     refusals::scanned(picture, width, height, RANGE)
 }

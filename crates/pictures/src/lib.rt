@@ -35,17 +35,18 @@ fn three_passes(
 ) -> u32
     requires { ⌜ Fit width height setting (now picture) (length (now picture)) (length (now work)) ⌝ }
     requires { ⌜ length (now picture) ≡ width * height ⌝ }
-    ensures { λ r. ⌜ now (picture .exit) ≡ straighten (kernelIn setting) width height (rowMoves setting) (columnMoves setting) (now (picture .entry)) ⌝ }
-    ensures { λ r. ⌜ r ≡ count width height (rowMoves setting) (columnMoves setting) ⌝ }
+    ensures { λ r. ⌜ now (picture .exit) ≡ straighten (setting .border) (kernelIn setting) width height (rowMoves setting) (columnMoves setting) (now (picture .entry)) ⌝ }
+    ensures { λ r. ⌜ r ≡ count (setting .border) width height (rowMoves setting) (columnMoves setting) ⌝ }
 {
     let kernel = setting.kernel;
     let cx = setting.cx;
     let cy = setting.cy;
     let a = setting.a;
     let b = setting.b;
-    let first = pass::pass(picture, work, width, height, 1, width, kernel, a, cy);
-    let second = pass::pass(picture, work, height, width, width, 1, kernel, b, cx);
-    let third = pass::pass(picture, work, width, height, 1, width, kernel, a, cy);
+    let edges = setting.border;
+    let first = pass::pass(picture, work, width, height, 1, width, edges, kernel, a, cy);
+    let second = pass::pass(picture, work, height, width, width, 1, edges, kernel, b, cx);
+    let third = pass::pass(picture, work, width, height, 1, width, edges, kernel, a, cy);
     first + second + third
 }
 
@@ -59,12 +60,12 @@ fn straighten_accepted(
     work: &mut [i32],
 ) -> u32
     requires { ⌜ Fit width height setting (now picture) (length (now result)) (length (now work)) ⌝ }
-    ensures { λ r. ⌜ now (result .exit) ≡ straighten (kernelIn setting) width height (rowMoves setting) (columnMoves setting) (take (width * height) (now (picture .entry))) ++ drop (width * height) (now (result .entry)) ⌝ }
-    ensures { λ r. ⌜ now (work .exit) ≡ replicate (4 * max width height) (pos 0) ++ drop (4 * max width height) (now (work .entry)) ⌝ }
-    ensures { λ r. ⌜ r ≡ count width height (rowMoves setting) (columnMoves setting) ⌝ }
+    ensures { λ r. ⌜ now (result .exit) ≡ straighten (setting .border) (kernelIn setting) width height (rowMoves setting) (columnMoves setting) (take (width * height) (now (picture .entry))) ++ drop (width * height) (now (result .entry)) ⌝ }
+    ensures { λ r. ⌜ now (work .exit) ≡ replicate (12 * max width height) (pos 0) ++ drop (12 * max width height) (now (work .entry)) ⌝ }
+    ensures { λ r. ⌜ r ≡ count (setting .border) width height (rowMoves setting) (columnMoves setting) ⌝ }
 {
     let places = width * height;
-    let room = 4 * judge::longer(width, height);
+    let room = 12 * judge::longer(width, height);
     lists::copy(picture, result, places);
     let lines = three_passes(
         &mut result[..places],
@@ -77,10 +78,10 @@ fn straighten_accepted(
     lines
 }
 
-// Straightens a picture of `width` by `height` samples into `result`, with the kernel, the centre and the shears of `setting`. `work` lends
-// 4·max(width, height) places, which hold 0 after it. It refuses, and writes nothing: 1 a side of 0 or over 1,024; 2 a picture or a result under
-// width·height places, or work under its own; 3 a centre outside the picture; 4 a shear beyond ±4,096; 5 an unknown kernel; 6 a sample beyond
-// ±32,767, with its row and column.
+// Straightens a picture of `width` by `height` samples into `result`, with the kernel, the centre, the shears and the border of `setting`. `work` lends
+// 12·max(width, height) places, which hold 0 after it. It refuses, and writes nothing: 1 a side of 0 or over 1,024; 2 a picture or a result under
+// width·height places, or work under its own; 3 a centre outside the picture; 4 a shear beyond ±4,096; 5 an unknown kernel; 12 a background beyond
+// ±32,767, judged before 6; 6 a sample beyond ±32,767, with its row and column.
 pub fn straighten(
     width: usize,
     height: usize,

@@ -1,5 +1,6 @@
 // One pass: every line of one direction moved in place, four at a time. Line y starts at place y·across of the picture, and its n places
-// are `along` apart: rows have along 1 and across W, columns along W and across 1. Line y moves by a·(y - c), in 4,096ths of a sample.
+// are `along` apart: rows have along 1 and across W, columns along W and across 1. Line y moves by a·(y - c), in 4,096ths of a sample. Under
+// background each line is set between n background samples on each side, and a move is held to n samples: then nothing but background is left.
 ghost use mathlib.Core.Path.{_≡_};
 ghost use Prim.Native.Nat.{ℕ, _+_, _*_, _<_, _≤_, min};
 ghost use lib.IntN.{pos, natAbs};
@@ -7,12 +8,16 @@ ghost use lib.ListN.{length, getD};
 ghost use Rattle.arith.specs.Move.{fraction};
 ghost use Rattle.lists.specs.Grid.{lineOf, put, Lines};
 ghost use Rattle.kernels.specs.Kernel.{kernelOf};
-ghost use Rattle.lines.specs.InPlace.{weighed-size, prepared, turn};
+ghost use Rattle.lines.specs.Border.{fractionIn, grey};
+ghost use Rattle.lines.specs.InPlace.{weighed-size, prepared};
+ghost use Rattle.lines.specs.Row.{places, startAt, held, Covers, loadedOf};
 ghost use Rattle.passes.specs.Picture.{shear};
 ghost use Rattle.passes.specs.Count.{interpolated};
-ghost use Rattle.pictures.specs.Four.{laid, FourTreated, FourWithin};
-ghost use Rattle.pictures.specs.Pass.{movedAt, linesMoved, weighedLine, LinesWithin, Movable};
+ghost use Rattle.pictures.specs.Four.{laid, FourTreated, FourWithin, FourPartWithin};
+ghost use Rattle.pictures.specs.Pass.{movedAt, linesMoved, heldMoves, weighedLine, LinesWithin, Movable};
 use crate::four;
+use lines::Part;
+use settings::Border;
 
 // How far line y moves.
 fn move_of(a: i32, c: usize, y: usize) -> i64
@@ -22,63 +27,71 @@ fn move_of(a: i32, c: usize, y: usize) -> i64
     a as i64 * (y as i64 - c as i64)
 }
 
-// f of line y, from 0 to 4,095.
-fn fraction_of(a: i32, c: usize, y: usize) -> i32
-    requires { ⌜ (natAbs a ≤ 4096) × (c ≤ 1024) × (y ≤ 1024) ⌝ }
-    ensures { λ r. ⌜ r ≡ pos (fraction (shear a c y)) ⌝ }
+// How far line y of n places is moved: no farther than n samples under background.
+fn held_of(border: Border, n: usize, a: i32, c: usize, y: usize) -> i64
+    requires { ⌜ (n ≤ 1024) × (natAbs a ≤ 4096) × (c ≤ 1024) × (y ≤ 1024) ⌝ }
+    ensures { λ r. ⌜ (r ≡ held border n (shear a c y)) × (natAbs r ≤ 4194304) ⌝ }
 {
-    arith::fraction_part(move_of(a, c, y))
+    lines::held_of(border, n, move_of(a, c, y))
 }
 
-// How far line y of n places turns by its whole samples.
-fn turn_at(n: usize, a: i32, c: usize, y: usize) -> usize
-    requires { ⌜ (1 ≤ n) × (n ≤ 3072) × (natAbs a ≤ 4096) × (c ≤ 1024) × (y ≤ 1024) ⌝ }
-    ensures { λ r. ⌜ (r ≡ turn n (shear a c y)) × (r < n) ⌝ }
+// f of line y, from 0 to 4,095.
+fn fraction_of(border: Border, n: usize, a: i32, c: usize, y: usize) -> i32
+    requires { ⌜ (n ≤ 1024) × (natAbs a ≤ 4096) × (c ≤ 1024) × (y ≤ 1024) ⌝ }
+    ensures { λ r. ⌜ r ≡ pos (fraction (held border n (shear a c y))) ⌝ }
 {
-    lines::turn_of(move_of(a, c, y), n)
+    arith::fraction_part(held_of(border, n, a, c, y))
+}
+
+// The place that output 0 of line y of n places is read from.
+fn start_at(border: Border, n: usize, a: i32, c: usize, y: usize) -> usize
+    requires { ⌜ (1 ≤ n) × (n ≤ 1024) × (natAbs a ≤ 4096) × (c ≤ 1024) × (y ≤ 1024) ⌝ }
+    ensures { λ r. ⌜ (r ≡ startAt border n (held border n (shear a c y))) × (r < places border n) ⌝ }
+{
+    lines::start_of(border, held_of(border, n, a, c, y), n)
 }
 
 // 1 where line y is interpolated, else 0.
-fn interpolates(a: i32, c: usize, y: usize) -> u32
-    requires { ⌜ (natAbs a ≤ 4096) × (c ≤ 1024) × (y ≤ 1024) ⌝ }
-    ensures { λ r. ⌜ r ≡ min 1 (fraction (shear a c y)) ⌝ }
+fn interpolates(border: Border, n: usize, a: i32, c: usize, y: usize) -> u32
+    requires { ⌜ (n ≤ 1024) × (natAbs a ≤ 4096) × (c ≤ 1024) × (y ≤ 1024) ⌝ }
+    ensures { λ r. ⌜ r ≡ min 1 (fractionIn border n (shear a c y)) ⌝ }
 {
-    if fraction_of(a, c, y) == 0 {
+    if fraction_of(border, n, a, c, y) == 0 {
         return 0;
     }
     1
 }
 
 // How many of the first lines are interpolated.
-fn count_lines(a: i32, c: usize, lines: usize) -> u32
-    requires { ⌜ (natAbs a ≤ 4096) × (c ≤ 1024) × (lines ≤ 1024) ⌝ }
-    ensures { λ r. ⌜ (r ≡ interpolated (shear a c) lines) × (r ≤ 1024) ⌝ }
+fn count_lines(border: Border, n: usize, a: i32, c: usize, lines: usize) -> u32
+    requires { ⌜ (n ≤ 1024) × (natAbs a ≤ 4096) × (c ≤ 1024) × (lines ≤ 1024) ⌝ }
+    ensures { λ r. ⌜ (r ≡ interpolated border n (shear a c) lines) × (r ≤ 1024) ⌝ }
 {
     let mut count: u32 = 0;
     let mut y: usize = 0;
     while y < lines {
-        count += interpolates(a, c, y);
+        count += interpolates(border, n, a, c, y);
         y += 1;
     }
     count
 }
 
-// How far each of the lines y to y + 3 turns.
-fn turns_at(n: usize, a: i32, c: usize, y: usize) -> [usize; 4]
-    requires { ⌜ (1 ≤ n) × (n ≤ 3072) × (natAbs a ≤ 4096) × (c ≤ 1024) × (y + 4 ≤ 1024) ⌝ }
-    ensures { λ r. ⌜ ((i : ℕ) → i < 4 → (getD r i 0 ≡ turn n (shear a c (y + i))) × (getD r i 0 < n)) ⌝ }
+// The place that output 0 of each of the lines y to y + 3 is read from.
+fn starts_at(border: Border, n: usize, a: i32, c: usize, y: usize) -> [usize; 4]
+    requires { ⌜ (1 ≤ n) × (n ≤ 1024) × (natAbs a ≤ 4096) × (c ≤ 1024) × (y + 4 ≤ 1024) ⌝ }
+    ensures { λ r. ⌜ ((i : ℕ) → i < 4 → (getD r i 0 ≡ startAt border n (held border n (shear a c (y + i)))) × (getD r i 0 < places border n)) ⌝ }
 {
-    let first = turn_at(n, a, c, y);
-    let second = turn_at(n, a, c, y + 1);
-    let third = turn_at(n, a, c, y + 2);
-    let fourth = turn_at(n, a, c, y + 3);
+    let first = start_at(border, n, a, c, y);
+    let second = start_at(border, n, a, c, y + 1);
+    let third = start_at(border, n, a, c, y + 2);
+    let fourth = start_at(border, n, a, c, y + 3);
     [first, second, third, fourth]
 }
 
 // Four lines in work prepared: for kernel 2 the coefficients take the samples' places.
 fn prepare_four(work: &mut [i32], n: usize, kernel: u32)
     requires { ⌜ (1 ≤ n) × (n ≤ 3072) × (4 * n ≤ length (now work)) × (kernel ≤ 2) ⌝ }
-    requires { ⌜ FourWithin n 294912 (now work) ⌝ }
+    requires { ⌜ (kernel ≡ 2 → FourWithin n 294912 (now work)) ⌝ }
     ensures { λ _. ⌜ FourTreated n (λ i. prepared (kernelOf kernel)) (now (work .entry)) (now (work .exit)) ⌝ }
 {
     if kernel == 2 {
@@ -86,30 +99,74 @@ fn prepare_four(work: &mut [i32], n: usize, kernel: u32)
     }
 }
 
-// Four prepared lines, y to y + 3, weighed in work.
-fn weigh_four(work: &mut [i32], n: usize, kernel: u32, a: i32, c: usize, y: usize)
-    requires { ⌜ Movable n (y + 4) kernel a c (length (now work)) ⌝ }
-    requires { ⌜ FourWithin n (weighed-size (kernelOf kernel)) (now work) ⌝ }
-    ensures { λ _. ⌜ FourTreated n (λ i. weighedLine (kernelOf kernel) (shear a c) (y + i)) (now (work .entry)) (now (work .exit)) ⌝ }
+// The least part of a row that has what the outputs of four lines of n places are weighed from, with the place that output 0 of each is read from.
+fn joined_windows(border: Border, n: usize, starts: [usize; 4]) -> Part
+    requires { ⌜ (1 ≤ n) × (n ≤ 1024) ⌝ }
+    requires { ⌜ ((i : ℕ) → i < 4 → getD starts i 0 < places border n) ⌝ }
+    ensures { λ r. ⌜ ((i : ℕ) → i < 4 → Covers border n (getD starts i 0) r) ⌝ }
 {
+    let first = lines::window_of(border, n, starts[0]);
+    let second = lines::window_of(border, n, starts[1]);
+    let third = lines::window_of(border, n, starts[2]);
+    let fourth = lines::window_of(border, n, starts[3]);
+    lines::joined(lines::joined(first, second), lines::joined(third, fourth))
+}
+
+// The part of a row that the outputs of four lines of n places are weighed from: under wrapped edges the whole row, with nothing to work out.
+fn window_at(border: Border, n: usize, starts: [usize; 4]) -> Part
+    requires { ⌜ (1 ≤ n) × (n ≤ 1024) ⌝ }
+    requires { ⌜ ((i : ℕ) → i < 4 → getD starts i 0 < places border n) ⌝ }
+    ensures { λ r. ⌜ ((i : ℕ) → i < 4 → Covers border n (getD starts i 0) r) ⌝ }
+{
+    match border {
+        Border::Wrapped => Part { lo: 0, hi: n },
+        Border::Background(_) => joined_windows(border, n, starts),
+    }
+}
+
+// A part of four prepared lines, y to y + 3, weighed in work.
+fn weigh_four(
+    work: &mut [i32],
+    n: usize,
+    border: Border,
+    kernel: u32,
+    a: i32,
+    c: usize,
+    y: usize,
+    part: Part,
+)
+    requires { ⌜ Movable border n (y + 4) kernel a c (length (now work)) ⌝ }
+    requires { ⌜ (part .lo < part .hi) × (part .hi ≤ places border n) × FourPartWithin (places border n) part (weighed-size (kernelOf kernel)) (now work) ⌝ }
+    ensures { λ _. ⌜ FourTreated (places border n) (λ i. weighedLine (kernelOf kernel) (heldMoves border n (shear a c)) (y + i) part) (now (work .entry)) (now (work .exit)) ⌝ }
+{
+    let m = lines::places_of(border, n);
     let mut i: usize = 0;
     while i < 4 {
-        let f = fraction_of(a, c, y + i);
-        let s = i * n;
-        let e = s + n;
-        lines::weigh_line(&mut work[s..e], kernel, f);
+        let f = fraction_of(border, n, a, c, y + i);
+        let s = i * m;
+        let e = s + m;
+        lines::weigh_part(&mut work[s..e], kernel, f, part);
         i += 1;
     }
 }
 
-// Four lines, y to y + 3, prepared and weighed in work.
-fn treat_four(work: &mut [i32], n: usize, kernel: u32, a: i32, c: usize, y: usize)
-    requires { ⌜ Movable n (y + 4) kernel a c (length (now work)) ⌝ }
-    requires { ⌜ FourWithin n 294912 (now work) ⌝ }
-    ensures { λ _. ⌜ FourTreated n (λ i s. weighedLine (kernelOf kernel) (shear a c) (y + i) (prepared (kernelOf kernel) s)) (now (work .entry)) (now (work .exit)) ⌝ }
+// Four lines, y to y + 3, prepared in work, and a part of each weighed.
+fn treat_four(
+    work: &mut [i32],
+    n: usize,
+    border: Border,
+    kernel: u32,
+    a: i32,
+    c: usize,
+    y: usize,
+    part: Part,
+)
+    requires { ⌜ Movable border n (y + 4) kernel a c (length (now work)) ⌝ }
+    requires { ⌜ (part .lo < part .hi) × (part .hi ≤ places border n) × FourPartWithin (places border n) (loadedOf (kernelOf kernel) (places border n) part) 294912 (now work) ⌝ }
+    ensures { λ _. ⌜ FourTreated (places border n) (λ i s. weighedLine (kernelOf kernel) (heldMoves border n (shear a c)) (y + i) part (prepared (kernelOf kernel) s)) (now (work .entry)) (now (work .exit)) ⌝ }
 {
-    prepare_four(work, n, kernel);
-    weigh_four(work, n, kernel, a, c, y);
+    prepare_four(work, lines::places_of(border, n), kernel);
+    weigh_four(work, n, border, kernel, a, c, y, part);
 }
 
 // Lines y to y + 3 moved.
@@ -120,41 +177,51 @@ fn move_four(
     y: usize,
     along: usize,
     across: usize,
+    border: Border,
     kernel: u32,
     a: i32,
     c: usize,
 )
-    requires { ⌜ Movable n (y + 4) kernel a c (length (now work)) ⌝ }
+    requires { ⌜ Movable border n (y + 4) kernel a c (length (now work)) ⌝ }
     requires { ⌜ Lines n (y + 4) along across (length (now picture)) ⌝ }
     requires { ⌜ ((i k : ℕ) → i < 4 → k < n → natAbs (getD (now picture) ((y + i) * across + k * along) (pos 0)) ≤ 294912) ⌝ }
-    ensures { λ _. ⌜ now (picture .exit) ≡ laid (y * across) along across n (λ i. movedAt (kernelOf kernel) (shear a c) (y + i) (lineOf (y * across + i * across) along n (now (picture .entry)))) 4 (now (picture .entry)) ⌝ }
+    ensures { λ _. ⌜ now (picture .exit) ≡ laid (y * across) along across n (λ i. movedAt border (kernelOf kernel) (shear a c) (y + i) (lineOf (y * across + i * across) along n (now (picture .entry)))) 4 (now (picture .entry)) ⌝ }
 {
     let at = y * across;
-    four::load_four(picture, at, along, across, work, n);
-    treat_four(work, n, kernel, a, c, y);
-    four::store_four(picture, at, along, across, work, n, turns_at(n, a, c, y));
+    let m = lines::places_of(border, n);
+    let starts = starts_at(border, n, a, c, y);
+    let window = window_at(border, n, starts);
+    let loaded = lines::loaded_of(kernel, m, window);
+    four::load_four(border, picture, at, along, across, work, n, loaded);
+    treat_four(work, n, border, kernel, a, c, y, window);
+    four::store_four(picture, at, along, across, work, n, m, starts);
 }
 
-// Line y moved; `line` is lent for it.
+// Line y of n places moved; `row` is lent for it.
 fn move_line(
     picture: &mut [i32],
-    line: &mut [i32],
+    row: &mut [i32],
+    n: usize,
     y: usize,
     along: usize,
     across: usize,
+    border: Border,
     kernel: u32,
     a: i32,
     c: usize,
 )
-    requires { ⌜ (1 ≤ length (now line)) × (length (now line) ≤ 3072) × (kernel ≤ 2) × (natAbs a ≤ 4096) × (c ≤ 1024) × (y ≤ 1024) ⌝ }
-    requires { ⌜ ((k : ℕ) → k < length (now line) → y * across + k * along < length (now picture)) ⌝ }
-    requires { ⌜ ((k : ℕ) → k < length (now line) → natAbs (getD (now picture) (y * across + k * along) (pos 0)) ≤ 294912) ⌝ }
-    ensures { λ _. ⌜ now (picture .exit) ≡ put (y * across) along (movedAt (kernelOf kernel) (shear a c) y (lineOf (y * across) along (length (now (line .entry))) (now (picture .entry)))) (length (now (line .entry))) (now (picture .entry)) ⌝ }
+    requires { ⌜ (1 ≤ n) × (n ≤ 1024) × (length (now row) ≡ places border n) × (kernel ≤ 2) × (natAbs a ≤ 4096) × (c ≤ 1024) × (y ≤ 1024) × (natAbs (grey border) ≤ 294912) ⌝ }
+    requires { ⌜ ((k : ℕ) → k < n → y * across + k * along < length (now picture)) ⌝ }
+    requires { ⌜ ((k : ℕ) → k < n → natAbs (getD (now picture) (y * across + k * along) (pos 0)) ≤ 294912) ⌝ }
+    ensures { λ _. ⌜ now (picture .exit) ≡ put (y * across) along (movedAt border (kernelOf kernel) (shear a c) y (lineOf (y * across) along n (now (picture .entry)))) n (now (picture .entry)) ⌝ }
 {
     let at = y * across;
-    lists::load_line(picture, at, along, line);
-    lines::treat(line, kernel, fraction_of(a, c, y));
-    lists::store_line(picture, at, along, line, turn_at(line.len(), a, c, y));
+    let start = start_at(border, n, a, c, y);
+    let window = lines::window_of(border, n, start);
+    let loaded = lines::loaded_of(kernel, row.len(), window);
+    lines::set_in(border, picture, at, along, row, n, loaded);
+    lines::treat(row, kernel, fraction_of(border, n, a, c, y), window);
+    lists::store_line(picture, at, along, row, start, n);
 }
 
 // The first lines moved, four at a time, those that are left over singly.
@@ -165,22 +232,35 @@ fn move_lines(
     lines: usize,
     along: usize,
     across: usize,
+    border: Border,
     kernel: u32,
     a: i32,
     c: usize,
 )
-    requires { ⌜ Movable n lines kernel a c (length (now work)) ⌝ }
+    requires { ⌜ Movable border n lines kernel a c (length (now work)) ⌝ }
     requires { ⌜ Lines n lines along across (length (now picture)) ⌝ }
     requires { ⌜ LinesWithin n lines along across 294912 (now picture) ⌝ }
-    ensures { λ _. ⌜ now (picture .exit) ≡ linesMoved (kernelOf kernel) (shear a c) n along across lines (now (picture .entry)) ⌝ }
+    ensures { λ _. ⌜ now (picture .exit) ≡ linesMoved border (kernelOf kernel) (shear a c) n along across lines (now (picture .entry)) ⌝ }
 {
+    let m = lines::places_of(border, n);
     let mut y: usize = 0;
     while y < lines {
         if y + 4 <= lines {
-            move_four(picture, work, n, y, along, across, kernel, a, c);
+            move_four(picture, work, n, y, along, across, border, kernel, a, c);
             y += 4;
         } else {
-            move_line(picture, &mut work[..n], y, along, across, kernel, a, c);
+            move_line(
+                picture,
+                &mut work[..m],
+                n,
+                y,
+                along,
+                across,
+                border,
+                kernel,
+                a,
+                c,
+            );
             y += 1;
         }
     }
@@ -194,16 +274,17 @@ pub fn pass(
     lines: usize,
     along: usize,
     across: usize,
+    border: Border,
     kernel: u32,
     a: i32,
     c: usize,
 ) -> u32
-    requires { ⌜ Movable n lines kernel a c (length (now work)) ⌝ }
+    requires { ⌜ Movable border n lines kernel a c (length (now work)) ⌝ }
     requires { ⌜ Lines n lines along across (length (now picture)) ⌝ }
     requires { ⌜ LinesWithin n lines along across 294912 (now picture) ⌝ }
-    ensures { λ r. ⌜ now (picture .exit) ≡ linesMoved (kernelOf kernel) (shear a c) n along across lines (now (picture .entry)) ⌝ }
-    ensures { λ r. ⌜ (r ≡ interpolated (shear a c) lines) × (r ≤ 1024) ⌝ }
+    ensures { λ r. ⌜ now (picture .exit) ≡ linesMoved border (kernelOf kernel) (shear a c) n along across lines (now (picture .entry)) ⌝ }
+    ensures { λ r. ⌜ (r ≡ interpolated border n (shear a c) lines) × (r ≤ 1024) ⌝ }
 {
-    move_lines(picture, work, n, lines, along, across, kernel, a, c);
-    count_lines(a, c, lines)
+    move_lines(picture, work, n, lines, along, across, border, kernel, a, c);
+    count_lines(border, n, a, c, lines)
 }

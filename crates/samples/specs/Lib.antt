@@ -3,3 +3,4 @@
 --     Further   rows of our own where a reader would doubt
 pub mod Starred
 pub mod Further
+pub mod Edges

@@ -2,6 +2,7 @@
 use mathlib.Core.Path.{_≡_, refl}
 use lib.IntN.{pos, negsuc}
 use Rattle.refusals.specs.Tests.{beyondOf}
+use Rattle.settings.specs.declared.Border.the-variants.{Background}
 use Rattle.settings.specs.declared.Setting.{Setting}
 use Rattle.steps.specs.Step.{entry, S, sineOf, changeOf}
 use Rattle.steps.specs.Level.{miss, firstSmallest, stepAt, missAt, levelling, outside, anyOutside, steep, directionOf, levelOf}
@@ -42,17 +43,17 @@ step-back-1698 : sineOf (negsuc 1697) ≡ sine.Refused 4
 unfolding sineOf beyondOf
 step-back-1698 = refl
 
--- a change by step 1,000 sets A = -1,000 and B = 1,887; a change by -1,698 is refused, and hands the setting back as it was
+-- a change by step 1,000 sets A = -1,000 and B = 1,887 and keeps the border; a change by -1,698 is refused, and hands the setting back as it was
 before-change : Setting
-before-change = record { kernel = 2; cx = 3; cy = 5; a = pos 7; b = pos 11 }
+before-change = record { kernel = 2; cx = 3; cy = 5; a = pos 7; b = pos 11; border = Background (pos 13) }
 
 change-1000 :
-    changeOf before-change (pos 1000) ≡ record { number = 0; setting = record { kernel = 2; cx = 3; cy = 5; a = negsuc 999; b = pos 1887 } }
+    changeOf before-change (pos 1000) ≡ record { number = 0; setting = record { kernel = 2; cx = 3; cy = 5; a = negsuc 999; b = pos 1887; border = Background (pos 13) } }
 unfolding before-change changeOf beyondOf S entry
 change-1000 = refl
 
 change-back-1698 :
-    changeOf before-change (negsuc 1697) ≡ record { number = 4; setting = record { kernel = 2; cx = 3; cy = 5; a = pos 7; b = pos 11 } }
+    changeOf before-change (negsuc 1697) ≡ record { number = 4; setting = record { kernel = 2; cx = 3; cy = 5; a = pos 7; b = pos 11; border = Background (pos 13) } }
 unfolding before-change changeOf beyondOf
 change-back-1698 = refl
 

@@ -22,7 +22,6 @@ pub enum StepSine {
 }
 
 // What `with_step` answers: a refusal number, or 0, and the setting.
-#[repr(C)]
 pub struct Change {
     pub number: u32,
     pub setting: Setting,

@@ -118,7 +118,7 @@ fn finish(
     out: &mut [u8],
     picture: &mut [i32; 4096],
     result: &mut [i32; 4096],
-    work: &mut [i32; 4096],
+    work: &mut [i32; 12288],
 ) -> usize
     requires { ⌜ (used ≤ 8215) × (length (now carry) ≡ 8215) × (length (now line) ≡ 8215) × (32783 ≤ length (now out)) ⌝ }
     ensures { λ r. ⌜ Finished (now (s .entry)) (take used (now (carry .entry))) (now (out .entry)) (now (out .exit)) r ⌝ }
@@ -146,7 +146,7 @@ fn step(
     out: &mut [u8],
     picture: &mut [i32; 4096],
     result: &mut [i32; 4096],
-    work: &mut [i32; 4096],
+    work: &mut [i32; 12288],
 ) -> Advance
     requires { ⌜ (used ≤ 8215) × (length (now carry) ≡ 8215) × (length (now line) ≡ 8215) × (32783 ≤ length (now out)) ⌝ }
     ensures { λ r. ⌜ Stepped (now (s .entry)) (now (carry .entry)) (now (carry .exit)) used (now (out .entry)) (now (out .exit)) r ⌝ }
@@ -185,7 +185,7 @@ fn lines(
     out: &mut [u8],
     picture: &mut [i32; 4096],
     result: &mut [i32; 4096],
-    work: &mut [i32; 4096],
+    work: &mut [i32; 12288],
 ) -> Progress
     requires { ⌜ (used ≤ 8215) × (length (now carry) ≡ 8215) × (length (now line) ≡ 8215) × (n ≤ length (now s)) × (65566 + 11 * n ≤ length (now out)) ⌝ }
     ensures { λ r. ⌜ Read (take n (now (s .entry))) (now (carry .entry)) (now (carry .exit)) used (r .used) (now (out .entry)) (now (out .exit)) (r .wrote) ⌝ }
@@ -226,7 +226,7 @@ pub fn turn(
     let mut line = line_room();
     let mut picture = hexlines::places();
     let mut result = hexlines::places();
-    let mut work = hexlines::places();
+    let mut work = hexlines::work_places();
     lines(
         block,
         least(n, 65536),
@@ -251,7 +251,7 @@ pub fn last(carry: &[u8; 8215], used: usize, out: &mut [u8; 1048576]) -> usize
     let mut line = line_room();
     let mut picture = hexlines::places();
     let mut result = hexlines::places();
-    let mut work = hexlines::places();
+    let mut work = hexlines::work_places();
     finish(
         b"",
         carry,

@@ -1,10 +1,10 @@
 //! How fast the proved library is, measured in one interleaved run and printed as the tables of
 //! `docs/PERFORMANCE.md`.
 //!
-//! In every round each call is timed once beside the second implementation and beside three plain
-//! copies of the same picture, the least that three passes can do; the line program is timed beside
-//! `cat`. Each time is the median over the rounds, to three digits, and each ratio that of the two
-//! medians as they are printed, to two digits.
+//! In every round each call is timed once with wrapped edges, once on background, once by the second
+//! implementation with wrapped edges, and once as three plain copies of the same picture, the least that
+//! three passes can do; the line program is timed beside `cat`. Each time is the median over the rounds,
+//! to three digits, and each ratio that of the two medians as they are printed, to two digits.
 //!
 //! `cargo run --release --bin bench [ROUNDS]`, after `rt check straightener` and `rt staticlib exports`.
 
@@ -45,8 +45,15 @@ struct Input {
     refused: bool,
 }
 
-/// Seconds of one call in one round: the library, the second implementation, three copies.
-type Times = [f64; 3];
+/// The background that pictures are straightened on: a grey of 70, in units of 1/128 grey.
+const BACKGROUND: i32 = 8_960;
+
+/// Rounds, if the command line names no number.
+const ROUNDS: usize = 9;
+
+/// Seconds of one call in one round: the library wrapped, the library on background, the second
+/// implementation, three copies.
+type Times = [f64; 4];
 
 /// A picture to straighten, with buffers, and what the rounds measured.
 struct Case {
@@ -79,7 +86,7 @@ impl Case {
             setting: second::with_step(setting, STEP).1,
             picture: noise(width * height).into_iter().map(|grey| 128 * i32::from(grey)).collect(),
             result: vec![0; width * height],
-            work: vec![0; 4 * width.max(height)],
+            work: vec![0; 12 * width.max(height)],
             rounds: Vec::new(),
         }
     }
@@ -88,12 +95,17 @@ impl Case {
     fn round(&mut self) {
         let Case { size: (width, height), calls, setting, ref picture, .. } = *self;
         let (result, work) = (&mut self.result, &mut self.work);
-        let second::Setting { kernel, cx, cy, a, b } = setting;
-        let library = seconds(calls, || {
-            let setting = raw::Setting { kernel, cx, cy, a, b };
+        let second::Setting { kernel, cx, cy, a, b, .. } = setting;
+        let wrapped = raw::Setting { kernel, cx, cy, a, b, border: 0, background: 0 };
+        let on_background = raw::Setting { border: 1, background: BACKGROUND, ..wrapped };
+        let mut straighten = |setting| {
             let answer = raw::straighten(width, height, setting, black_box(picture), result, work);
             assert_eq!(black_box(answer).number, 0);
-        });
+        };
+        // Untimed, so that the first call that is timed finds the picture as near as the others do.
+        straighten(wrapped);
+        let [library, background] =
+            [wrapped, on_background].map(|setting| seconds(calls, || straighten(setting)));
         let plain = seconds(calls, || {
             let answer = second::straighten(width, height, setting, black_box(picture), result, work);
             assert!(black_box(answer).is_ok());
@@ -104,7 +116,7 @@ impl Case {
                 black_box(&mut *result);
             }
         });
-        self.rounds.push([library, plain, copies]);
+        self.rounds.push([library, background, plain, copies]);
     }
 
     /// The median milliseconds of one contestant, as they are printed.
@@ -112,15 +124,27 @@ impl Case {
         to_digits(3, 1e3 * median(self.rounds.iter().map(|times| times[contestant]).collect()))
     }
 
-    /// The row of the table.
-    fn row(&self) -> String {
-        let (name, target) = KERNELS[self.setting.kernel as usize];
-        let [library, plain, copies] = [0, 1, 2].map(|contestant| self.milliseconds(contestant));
-        let target = if self.size.0 == 1_024 { format!("{target:.2}") } else { String::new() };
+    /// The picture's size and kernel, as the tables name them.
+    fn names(&self) -> [String; 2] {
         let size = format!("{} by {}", grouped(self.size.0 as f64), grouped(self.size.1 as f64));
+        [size, KERNELS[self.setting.kernel as usize].0.to_string()]
+    }
+
+    /// The row of the table of three passes with wrapped edges.
+    fn row(&self) -> String {
+        let target = KERNELS[self.setting.kernel as usize].1;
+        let [library, plain, copies] = [0, 2, 3].map(|contestant| self.milliseconds(contestant));
+        let target = if self.size.0 == 1_024 { format!("{target:.2}") } else { String::new() };
         let times = [library, plain, copies].map(|time| format!("{} ms", figure(3, time)));
         let ratios = [figure(2, library / plain), target, figure(2, library / copies)];
-        table_row(&[&[size, name.to_string()], &times[..], &ratios[..]].concat())
+        table_row(&[&self.names()[..], &times[..], &ratios[..]].concat())
+    }
+
+    /// The row of the table of both borders.
+    fn border_row(&self) -> String {
+        let [wrapped, background] = [0, 1].map(|contestant| self.milliseconds(contestant));
+        let times = [wrapped, background].map(|time| format!("{} ms", figure(3, time)));
+        table_row(&[&self.names()[..], &times[..], &[figure(2, background / wrapped)]].concat())
     }
 }
 
@@ -268,7 +292,7 @@ fn digit_tests(rounds: usize) -> String {
 }
 
 fn main() -> Result<(), Box<dyn Error>> {
-    let rounds: usize = std::env::args().nth(1).map_or(Ok(7), |word| word.parse())?;
+    let rounds: usize = std::env::args().nth(1).map_or(Ok(ROUNDS), |word| word.parse())?;
     let rounds = rounds.max(1);
     let kernels = 0..KERNELS.len() as u32;
     let mut cases: Vec<Case> =
@@ -291,6 +315,9 @@ fn main() -> Result<(), Box<dyn Error>> {
         ])
     );
     cases.iter().for_each(|case| println!("{}", case.row()));
+    println!("\nThe same passes with wrapped edges and on background, in the same rounds.\n");
+    println!("{}", table_head(&["Picture", "Kernel", "Wrapped", "Background", "Times wrapped"]));
+    cases.iter().for_each(|case| println!("{}", case.border_row()));
 
     let program = PathBuf::from(env!("CARGO_MANIFEST_DIR")).join("../target/bin/straightener");
     if !program.is_file() {

@@ -1,6 +1,8 @@
-//! The exact picture of document 01, in fractions, with nothing rounded in any pass.
+//! The exact picture of document 01, in fractions, with nothing rounded in any pass, under both borders of
+//! document 02.
 //!
-//! Support for tests of small pictures: lines of at most [`LONGEST`] samples. The weights here come
+//! Support for tests of small pictures: lines of at most [`LONGEST`] samples, or a third of that on
+//! background. The weights here come
 //! from the published kernels as functions of distance, not from the document's table of rows, so
 //! that the two check each other.
 
@@ -8,8 +10,11 @@ mod whole;
 
 pub use whole::Whole;
 
-/// The longest line whose cyclic system is solved within 128 bits.
-pub const LONGEST: usize = 24;
+use crate::second::{Border, Setting};
+use std::sync::OnceLock;
+
+/// The longest line whose cyclic system is solved: 9 samples between 9 of background on each side.
+pub const LONGEST: usize = 27;
 
 /// Distances are counted in 4,096ths of a sample.
 const D: i64 = 4_096;
@@ -50,9 +55,15 @@ struct Impulse {
     det: i64,
 }
 
+/// The solution for n places, worked out once.
+fn impulse(n: usize) -> &'static Impulse {
+    static SOLVED: [OnceLock<Impulse>; LONGEST + 1] = [const { OnceLock::new() }; LONGEST + 1];
+    assert!((1..=LONGEST).contains(&n), "exact lines have 1 to {LONGEST} places");
+    SOLVED[n].get_or_init(|| solved(n))
+}
+
 /// Solves the cyclic system by elimination without fractions (Bareiss): every quotient is whole.
-fn impulse(n: usize) -> Impulse {
-    assert!((1..=LONGEST).contains(&n), "exact lines have 1 to {LONGEST} samples");
+fn solved(n: usize) -> Impulse {
     let mut rows = vec![vec![0_i128; n + 1]; n];
     for (k, row) in rows.iter_mut().enumerate() {
         row[(k + n - 1) % n] += 1;
@@ -86,10 +97,16 @@ pub fn coefficients(line: &Fractions) -> Fractions {
         }
         sum
     };
-    Fractions { numbers: (0..n).map(number).collect(), over: line.over.times(det) }
+    Fractions { numbers: (0..n).map(number).collect(), over: line.over.times(*det) }
 }
 
-/// The line moved by d/4,096 samples, unrounded.
+/// What the numbers of a line stand over once it is moved, whatever the move.
+fn over_once_moved(kernel: u32, line: &Fractions) -> Whole {
+    let det = if kernel == 2 { impulse(line.numbers.len()).det } else { 1 };
+    line.over.times(det).times(weights_over(kernel))
+}
+
+/// The line moved by d/4,096 samples with wrapping, unrounded.
 pub fn moved(kernel: u32, d: i64, line: &Fractions) -> Fractions {
     let n = line.numbers.len() as i64;
     let source = if kernel == 2 { coefficients(line) } else { line.clone() };
@@ -103,7 +120,30 @@ pub fn moved(kernel: u32, d: i64, line: &Fractions) -> Fractions {
         }
         sum
     };
-    Fractions { numbers: (0..n).map(number).collect(), over: source.over.times(weights_over(kernel)) }
+    Fractions { numbers: (0..n).map(number).collect(), over: over_once_moved(kernel, line) }
+}
+
+/// The line moved by d/4,096 samples with the edges of a border, unrounded.
+pub fn moved_in(border: Border, kernel: u32, d: i64, line: &Fractions) -> Fractions {
+    match border {
+        Border::Wrapped => moved(kernel, d, line),
+        Border::Background(value) => moved_on_background(i64::from(value), kernel, d, line),
+    }
+}
+
+/// The line moved on a background: all background where it moves by its length or more, else set between
+/// as many background samples on each side, moved with wrapping, and the middle kept.
+fn moved_on_background(value: i64, kernel: u32, d: i64, line: &Fractions) -> Fractions {
+    let n = line.numbers.len();
+    let side = vec![line.over.times(value); n];
+    let longer = Fractions { numbers: [&side[..], &line.numbers, &side].concat(), over: line.over.clone() };
+    if d.abs() >= n as i64 * D {
+        // Over the same number as the other lines of its pass.
+        let over = over_once_moved(kernel, &longer);
+        return Fractions { numbers: vec![over.times(value); n], over };
+    }
+    let Fractions { numbers, over } = moved(kernel, d, &longer);
+    Fractions { numbers: numbers[n..2 * n].to_vec(), over }
 }
 
 /// A pass over lines of `length` places that lie `along` apart and begin `across` apart.
@@ -117,7 +157,7 @@ struct Pass {
 }
 
 /// Moves every line of a pass; all lines come to stand over the same whole number.
-fn passed(kernel: u32, pass: &Pass, picture: &Fractions) -> Fractions {
+fn passed(border: Border, kernel: u32, pass: &Pass, picture: &Fractions) -> Fractions {
     let mut result = picture.clone();
     for y in 0..pass.lines {
         let place = |k: usize| y * pass.across + k * pass.along;
@@ -126,7 +166,7 @@ fn passed(kernel: u32, pass: &Pass, picture: &Fractions) -> Fractions {
             over: picture.over.clone(),
         };
         let d = i64::from(pass.shear) * (y as i64 - pass.centre as i64);
-        let line = moved(kernel, d, &line);
+        let line = moved_in(border, kernel, d, &line);
         for (k, number) in line.numbers.into_iter().enumerate() {
             result.numbers[place(k)] = number;
         }
@@ -136,7 +176,7 @@ fn passed(kernel: u32, pass: &Pass, picture: &Fractions) -> Fractions {
 }
 
 /// The exact picture of an accepted picture, from its samples and its setting alone.
-pub fn picture(width: usize, height: usize, setting: crate::second::Setting, samples: &[i32]) -> Fractions {
+pub fn picture(width: usize, height: usize, setting: Setting, samples: &[i32]) -> Fractions {
     let rows =
         Pass { lines: height, across: width, length: width, along: 1, shear: setting.a, centre: setting.cy };
     let columns =
@@ -146,7 +186,7 @@ pub fn picture(width: usize, height: usize, setting: crate::second::Setting, sam
         over: Whole::from(1),
     };
     for pass in [&rows, &columns, &rows] {
-        exact = passed(setting.kernel, pass, &exact);
+        exact = passed(setting.border, setting.kernel, pass, &exact);
     }
     exact
 }
@@ -160,10 +200,22 @@ fn within(result: &[i32], exact: &Fractions, most: i64, times: i64) -> bool {
     })
 }
 
-/// Whether every sample lies within demand 3's limit of the exact picture: 3/2, 2 or 10 units.
+/// Demand 3's limit for each kernel, in units, as a whole number over another.
+pub const LIMITS: [(i64, i64); 3] = [(3, 2), (2, 1), (10, 1)];
+
+/// Whether every sample lies within demand 3's limit of the exact picture.
 pub fn within_limits(kernel: u32, result: &[i32], exact: &Fractions) -> bool {
-    let (most, times) = [(3, 2), (2, 1), (10, 1)][kernel as usize];
+    let (most, times) = LIMITS[kernel as usize];
     within(result, exact, most, times)
+}
+
+/// The largest distance of a sample from its fraction in units, to the digits of a 64-bit float.
+pub fn largest_distance(result: &[i32], exact: &Fractions) -> f64 {
+    let distance = |(&v, number): (&i32, &Whole)| {
+        let off = exact.over.times(i64::from(v)).minus(number);
+        (off.to_float() / exact.over.to_float()).abs()
+    };
+    result.iter().zip(&exact.numbers).map(distance).fold(0.0, f64::max)
 }
 
 /// Whether every sample of a moved line is its fraction rounded once, to within 1/2 unit. Kernel 2 adds
@@ -185,7 +237,7 @@ mod tests {
     #[test]
     fn impulses_solve_the_cyclic_system() {
         for n in 1..=LONGEST {
-            let Impulse { g, det } = impulse(n);
+            let &Impulse { ref g, det } = impulse(n);
             assert!(det > 0);
             for k in 0..n {
                 let left = g[(k + n - 1) % n] + 4 * g[k] + g[(k + 1) % n];
@@ -206,16 +258,30 @@ mod tests {
 
     #[test]
     fn a_wrong_sample_is_found() {
-        let setting = crate::second::Setting::default().with_shears(1_000, -500);
+        let setting = Setting::default().with_shears(1_000, -500);
         let exact = picture(2, 2, setting, &[0, 100, 200, 300]);
-        let setting_kept = crate::second::Setting::default();
+        let setting_kept = Setting::default();
         assert!(equal(&[5, 6], &picture(2, 1, setting_kept, &[5, 6])));
         assert!(!equal(&[5, 7], &picture(2, 1, setting_kept, &[5, 6])));
         assert!(!within_limits(0, &[0, 100, 200, 300], &exact));
+        assert!(largest_distance(&[0, 100, 200, 300], &exact) > 1.5);
         // 2/3 of a unit is more than one rounding, and less than a rounding and a quarter.
         let thirds = Fractions { numbers: vec![Whole::from(5)], over: Whole::from(3) };
         assert!([0, 1].iter().all(|&kernel| line_within_limits(kernel, &[2], &thirds)));
         assert!([0, 1].iter().all(|&kernel| !line_within_limits(kernel, &[1], &thirds)));
         assert!(line_within_limits(2, &[1], &thirds) && !line_within_limits(2, &[0], &thirds));
+        assert_eq!(largest_distance(&[1], &thirds), 2.0 / 3.0);
+    }
+
+    #[test]
+    fn a_line_on_background_by_hand() {
+        let line = Fractions { numbers: vec![Whole::from(7), Whole::from(3)], over: Whole::from(2) };
+        let on = |value: i32, d: i64| moved_in(Border::Background(value), 0, d, &line);
+        // A quarter sample to the right: 1/4 of 5 and 3/4 of 7/2, then 1/4 of 7/2 and 3/4 of 3/2.
+        let quarter = on(5, D / 4);
+        let expected = [31, 16].map(|eighths| quarter.over.times(eighths));
+        assert_eq!(quarter.numbers.iter().map(|number| number.times(8)).collect::<Vec<_>>(), expected);
+        assert!(equal(&[5, 5], &on(5, 2 * D)) && equal(&[-5, -5], &on(-5, -2 * D)));
+        assert!(!equal(&[5, 5], &on(5, 2 * D - 1)));
     }
 }

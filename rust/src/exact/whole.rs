@@ -1,6 +1,7 @@
 //! Whole numbers of any size, with the few operations that the exact picture needs.
 
 use std::cmp::Ordering;
+use std::str::FromStr;
 
 /// A whole number as a sign and 32-bit limbs, lowest first, the highest not 0.
 #[derive(Clone, Debug, PartialEq, Eq)]
@@ -13,6 +14,21 @@ impl From<i64> for Whole {
     fn from(value: i64) -> Whole {
         let size = value.unsigned_abs();
         Whole::of(value < 0, vec![size as u32, (size >> 32) as u32])
+    }
+}
+
+impl FromStr for Whole {
+    type Err = &'static str;
+
+    /// Reads decimal digits, with a minus before them where the number is negative.
+    fn from_str(text: &str) -> Result<Whole, &'static str> {
+        let digits = text.strip_prefix('-').unwrap_or(text);
+        if digits.is_empty() || !digits.bytes().all(|byte| byte.is_ascii_digit()) {
+            return Err("a whole number is decimal digits");
+        }
+        let digit = |byte: u8| Whole::from(i64::from(byte - b'0'));
+        let size = digits.bytes().fold(Whole::zero(), |size, byte| size.times(10).plus(&digit(byte)));
+        Ok(Whole::of(digits.len() < text.len(), size.limbs))
     }
 }
 
@@ -58,6 +74,28 @@ impl Whole {
         }
         limbs.extend([carry as u32, (carry >> 32) as u32]);
         Whole::of(self.negative != (factor < 0), limbs)
+    }
+
+    /// The product with a number of any size.
+    pub fn product(&self, other: &Whole) -> Whole {
+        let limbs = other.limbs.iter().rev();
+        let size =
+            limbs.fold(Whole::zero(), |sum, &limb| sum.times(1 << 32).plus(&self.times(i64::from(limb))));
+        if other.negative {
+            size.times(-1)
+        } else {
+            size
+        }
+    }
+
+    /// The nearest 64-bit float, or one beside it.
+    pub fn to_float(&self) -> f64 {
+        let size = self.limbs.iter().rev().fold(0.0, |size, &limb| 4_294_967_296.0 * size + f64::from(limb));
+        if self.negative {
+            -size
+        } else {
+            size
+        }
     }
 
     /// Whether the number lies within plus or minus `limit`, which is not negative.
@@ -119,6 +157,7 @@ mod tests {
                 assert_eq!(x.plus(&y), wide(i128::from(a) + i128::from(b)), "{a} + {b}");
                 assert_eq!(x.minus(&y), wide(i128::from(a) - i128::from(b)), "{a} - {b}");
                 assert_eq!(x.times(b), wide(i128::from(a) * i128::from(b)), "{a} * {b}");
+                assert_eq!(x.product(&y), x.times(b), "{a} * {b}");
                 assert_eq!(x.magnitude_at_most(&y), a.abs() <= b.abs(), "{a} within {b}");
             }
         }
@@ -131,5 +170,18 @@ mod tests {
         assert_eq!(big.times(7).minus(&big.times(6)), big);
         assert_eq!(big.minus(&big), Whole::zero());
         assert!(big.magnitude_at_most(&big) && !big.times(2).magnitude_at_most(&big));
+        assert_eq!(big.product(&big).minus(&big.product(&big.times(-2))), big.product(&big.times(3)));
+    }
+
+    #[test]
+    fn digits_and_floats_are_read_alike() {
+        for number in edges() {
+            assert_eq!(number.to_string().parse(), Ok(Whole::from(number)));
+            assert_eq!(Whole::from(number).to_float(), number as f64);
+        }
+        let digits = "-1".to_string() + &"0".repeat(40);
+        let ten_to_the_20th = Whole::from(10_000_000_000).times(10_000_000_000);
+        assert_eq!(digits.parse(), Ok(ten_to_the_20th.product(&ten_to_the_20th).times(-1)));
+        assert!(["", "-", "+1", "1.5", "--1"].iter().all(|text| text.parse::<Whole>().is_err()));
     }
 }

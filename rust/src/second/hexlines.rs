@@ -66,7 +66,7 @@ fn straightened(request: &Request) -> Result<(u32, Vec<i32>), Refused> {
     let setting = Setting::default().with_kernel(request.kernel).with_centre(request.cx, request.cy);
     let (_, setting) = with_step(setting, request.step);
     let mut result = vec![0; width * height];
-    let mut work = vec![0; 4 * width.max(height)];
+    let mut work = vec![0; 12 * width.max(height)];
     let count = straighten(width, height, setting, &request.picture, &mut result, &mut work)?;
     Ok((count, result))
 }

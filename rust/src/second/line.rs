@@ -1,5 +1,6 @@
 //! One line moved, and the spline coefficients.
 
+use super::border::{interpolated, judge_border, moved_in, Border};
 use super::{judge_samples, judge_size, refuse_if, Refused};
 
 /// Moves and shears are counted in 4,096ths.
@@ -77,7 +78,7 @@ pub fn coefficients(line: &[i32]) -> Vec<i64> {
     c
 }
 
-/// The line moved by d/4,096 samples toward higher places, for a kernel and a d within their ranges.
+/// The line moved by d/4,096 samples toward higher places, wrapped, for a kernel and a d within their ranges.
 pub(super) fn moved(kernel: u32, d: i64, line: &[i32]) -> Vec<i32> {
     let n = line.len() as i64;
     let (f, q) = fraction(d);
@@ -99,24 +100,26 @@ pub(super) fn moved(kernel: u32, d: i64, line: &[i32]) -> Vec<i32> {
     result
 }
 
-/// Moves the first n samples of a line into the first n places of `result`, and sets the first 2n
-/// places of `work` to 0; answers 1 if the line was interpolated and 0 if it moved by whole samples.
+/// Moves the first n samples of a line into the first n places of `result`, and sets the first 6n
+/// places of `work` to 0; answers 1 if the line was interpolated and 0 if it was not.
 pub fn move_line(
     n: usize,
     kernel: u32,
     d: i32,
+    border: Border,
     line: &[i32],
     result: &mut [i32],
     work: &mut [i32],
 ) -> Result<u32, Refused> {
     judge_size(n)?;
-    refuse_if(line.len() < n || result.len() < n || work.len() < 2 * n, 2)?;
+    refuse_if(line.len() < n || result.len() < n || work.len() < 6 * n, 2)?;
     refuse_if(!(-LARGEST_MOVE..=LARGEST_MOVE).contains(&d), 4)?;
     refuse_if(kernel > SPLINE, 5)?;
+    judge_border(border)?;
     judge_samples(n, 1, line, LARGEST_LINE_SAMPLE)?;
-    result[..n].copy_from_slice(&moved(kernel, i64::from(d), &line[..n]));
-    work[..2 * n].fill(0);
-    Ok(u32::from(fraction(i64::from(d)).0 != 0))
+    result[..n].copy_from_slice(&moved_in(border, kernel, i64::from(d), &line[..n]));
+    work[..6 * n].fill(0);
+    Ok(u32::from(interpolated(border, n, i64::from(d))))
 }
 
 #[cfg(test)]

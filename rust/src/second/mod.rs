@@ -1,15 +1,17 @@
-//! Document 01 a second time, in plain Rust.
+//! Documents 01 and 02 a second time, in plain Rust, as far as the library goes.
 //!
-//! Written from the document alone, in its order and its words; it shares no code with the proved
+//! Written from the documents alone, in their order and their words; it shares no code with the proved
 //! library. Tests hold the two against each other, and the benchmark takes this one as its yardstick:
 //! a remainder for every source place and a division for every sample.
 
+mod border;
 mod hexlines;
 mod line;
 mod picture;
 mod readings;
 mod steps;
 
+pub use border::{interpolated, Border};
 pub use hexlines::{answer_input, answer_line};
 pub use line::{coefficients, fraction, move_line, rounded, weights};
 pub use picture::{passes, straighten, Setting};
@@ -22,7 +24,7 @@ pub const LONGEST: usize = 1_024;
 /// Why a call was refused: the document's number, and under number 6 the place of the sample.
 #[derive(Clone, Copy, Debug, PartialEq, Eq)]
 pub struct Refused {
-    /// 1 to 9, as the document lists them.
+    /// 1 to 9, as document 01 lists them, or 12 of document 02.
     pub number: u32,
     /// Row of the first sample beyond the range; 0 for every other number.
     pub row: usize,

@@ -1,6 +1,6 @@
 //! The setting, and the three passes over a picture.
 
-use super::line::{fraction, moved};
+use super::border::{interpolated, judge_border, moved_in, Border};
 use super::{judge_samples, judge_size, refuse_if, Refused};
 
 /// The largest shear, in 4,096ths.
@@ -9,7 +9,7 @@ const LARGEST_SHEAR: i32 = 4_096;
 /// The largest sample of a picture that is straightened, in units of 1/128 grey.
 const LARGEST_SAMPLE: i32 = 32_767;
 
-/// Kernel, centre and shears, as a caller fills them in.
+/// Kernel, centre, shears and border, as a caller fills them in.
 #[derive(Clone, Copy, Debug, Default, PartialEq, Eq)]
 pub struct Setting {
     /// 0 linear, 1 Keys, 2 cubic spline.
@@ -22,6 +22,8 @@ pub struct Setting {
     pub a: i32,
     /// Shear of the columns, in 4,096ths.
     pub b: i32,
+    /// What lies beyond the ends of the rows and of the columns.
+    pub border: Border,
 }
 
 impl Setting {
@@ -39,6 +41,11 @@ impl Setting {
     pub fn with_shears(self, a: i32, b: i32) -> Setting {
         Setting { a, b, ..self }
     }
+
+    /// This setting with another border.
+    pub fn with_border(self, border: Border) -> Setting {
+        Setting { border, ..self }
+    }
 }
 
 /// How far the line at `place` moves, in 4,096ths of a sample.
@@ -52,9 +59,9 @@ fn rows_moved(width: usize, height: usize, setting: Setting, picture: &mut [i32]
     for y in 0..height {
         let d = shift(setting.a, y, setting.cy);
         let row = &mut picture[y * width..(y + 1) * width];
-        let result = moved(setting.kernel, d, row);
+        let result = moved_in(setting.border, setting.kernel, d, row);
         row.copy_from_slice(&result);
-        count += u32::from(fraction(d).0 != 0);
+        count += u32::from(interpolated(setting.border, width, d));
     }
     count
 }
@@ -65,10 +72,10 @@ fn columns_moved(width: usize, height: usize, setting: Setting, picture: &mut [i
     for x in 0..width {
         let d = shift(setting.b, x, setting.cx);
         let column: Vec<i32> = (0..height).map(|y| picture[y * width + x]).collect();
-        for (y, sample) in moved(setting.kernel, d, &column).into_iter().enumerate() {
+        for (y, sample) in moved_in(setting.border, setting.kernel, d, &column).into_iter().enumerate() {
             picture[y * width + x] = sample;
         }
-        count += u32::from(fraction(d).0 != 0);
+        count += u32::from(interpolated(setting.border, height, d));
     }
     count
 }
@@ -81,7 +88,7 @@ pub fn passes(width: usize, height: usize, setting: Setting, picture: &mut [i32]
 }
 
 /// Straightens `picture` into the first width times height places of `result`, sets the first
-/// 4 times max(width, height) places of `work` to 0, and answers the number of lines interpolated.
+/// 12 times max(width, height) places of `work` to 0, and answers the number of lines interpolated.
 pub fn straighten(
     width: usize,
     height: usize,
@@ -92,7 +99,7 @@ pub fn straighten(
 ) -> Result<u32, Refused> {
     judge_size(width)?;
     judge_size(height)?;
-    let (places, work_places) = (width * height, 4 * width.max(height));
+    let (places, work_places) = (width * height, 12 * width.max(height));
     refuse_if(picture.len() < places || result.len() < places || work.len() < work_places, 2)?;
     refuse_if(setting.cx >= width || setting.cy >= height, 3)?;
     refuse_if(
@@ -100,6 +107,7 @@ pub fn straighten(
         4,
     )?;
     refuse_if(setting.kernel > 2, 5)?;
+    judge_border(setting.border)?;
     judge_samples(width, height, picture, LARGEST_SAMPLE)?;
     result[..places].copy_from_slice(&picture[..places]);
     work[..work_places].fill(0);

@@ -2,6 +2,7 @@
 
 use std::fs;
 use std::path::PathBuf;
+use straightener::second::Border;
 
 /// A path relative to the repository's folder.
 pub fn in_repository(path: &str) -> PathBuf {
@@ -66,6 +67,49 @@ pub fn float_bits(word: &str) -> u32 {
 pub fn value<'a>(words: &'a [String], key: &str) -> &'a str {
     let pairs = words.iter().filter_map(|word| word.split_once('='));
     pairs.into_iter().find(|(name, _)| *name == key).unwrap_or_else(|| panic!("no {key}=")).1
+}
+
+/// A border: `w` wrapped, a number background.
+pub fn border(word: &str) -> Border {
+    match word {
+        "w" => Border::Wrapped,
+        _ => Border::Background(number(word)),
+    }
+}
+
+/// A list of samples with commas between them: `v*n` is v n times over, `-` the empty list, and
+/// `lcg:SEED:COUNT:LIMIT` a list made by a linear congruential generator.
+pub fn list(word: &str) -> Vec<i32> {
+    if let Some(made) = word.strip_prefix("lcg:") {
+        let parts: Vec<u64> = made.split(':').map(number).collect();
+        return generated(parts[0], parts[1], parts[2]);
+    }
+    let entries = word.split(',').filter(|entry| *entry != "-");
+    entries
+        .flat_map(|entry| {
+            let (sample, times) = entry.split_once('*').unwrap_or((entry, "1"));
+            vec![number(sample); number(times)]
+        })
+        .collect()
+}
+
+/// `count` samples within `limit`, made from a seed.
+fn generated(seed: u64, count: u64, limit: u64) -> Vec<i32> {
+    let mut state = seed;
+    let mut next = || {
+        state = state.wrapping_mul(6_364_136_223_846_793_005).wrapping_add(1_442_695_040_888_963_407);
+        ((state >> 33) % (2 * limit + 1)) as i32 - limit as i32
+    };
+    (0..count).map(|_| next()).collect()
+}
+
+/// The hash FNV-1a of 64 bits over samples, each as four bytes, lowest first.
+pub fn fnv(samples: &[i32]) -> u64 {
+    let mut hash = 0xCBF2_9CE4_8422_2325_u64;
+    for byte in samples.iter().flat_map(|sample| sample.to_le_bytes()) {
+        hash = (hash ^ u64::from(byte)).wrapping_mul(0x0000_0100_0000_01B3);
+    }
+    hash
 }
 
 /// One case of the line program: its name, its whole input and its whole output.

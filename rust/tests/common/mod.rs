@@ -6,9 +6,10 @@ pub mod calls;
 pub mod files;
 pub mod numbers;
 
+use calls::LineCall;
 #[cfg(feature = "library")]
 use straightener::raw;
-use straightener::second::{self, Refused, Setting};
+use straightener::second::{self, Border, Refused, Setting};
 
 /// What the document says of an answer: number, row, column and count.
 #[derive(Clone, Copy, Debug, PartialEq, Eq)]
@@ -36,7 +37,7 @@ impl Answer {
     }
 }
 
-/// The public calls of document 01. Floats are compared by their bits, so they are answered as such.
+/// The public calls of documents 01 and 02. Floats are compared by their bits, so they are answered as such.
 pub trait Implementation {
     fn straighten(
         &self,
@@ -46,18 +47,11 @@ pub trait Implementation {
         result: &mut [i32],
         work: &mut [i32],
     ) -> Answer;
-    fn move_line(
-        &self,
-        n: usize,
-        kernel: u32,
-        d: i32,
-        line: &[i32],
-        result: &mut [i32],
-        work: &mut [i32],
-    ) -> Answer;
+    fn move_line(&self, call: &LineCall, result: &mut [i32], work: &mut [i32]) -> Answer;
     fn with_kernel(&self, setting: Setting, kernel: u32) -> Setting;
     fn with_centre(&self, setting: Setting, cx: usize, cy: usize) -> Setting;
     fn with_shears(&self, setting: Setting, a: i32, b: i32) -> Setting;
+    fn with_border(&self, setting: Setting, border: Border) -> Setting;
     fn with_step(&self, setting: Setting, t: i32) -> (u32, Setting);
     fn sine(&self, t: i32) -> (u32, i32);
     fn level(&self, x1: i32, y1: i32, x2: i32, y2: i32) -> (u32, i32);
@@ -102,16 +96,9 @@ impl Implementation for Second {
         answer(second::straighten(width, height, setting, picture, result, work))
     }
 
-    fn move_line(
-        &self,
-        n: usize,
-        kernel: u32,
-        d: i32,
-        line: &[i32],
-        result: &mut [i32],
-        work: &mut [i32],
-    ) -> Answer {
-        answer(second::move_line(n, kernel, d, line, result, work))
+    fn move_line(&self, call: &LineCall, result: &mut [i32], work: &mut [i32]) -> Answer {
+        let &LineCall { n, kernel, d, border, ref line, .. } = call;
+        answer(second::move_line(n, kernel, d, border, line, result, work))
     }
 
     fn with_kernel(&self, setting: Setting, kernel: u32) -> Setting {
@@ -124,6 +111,10 @@ impl Implementation for Second {
 
     fn with_shears(&self, setting: Setting, a: i32, b: i32) -> Setting {
         setting.with_shears(a, b)
+    }
+
+    fn with_border(&self, setting: Setting, border: Border) -> Setting {
+        setting.with_border(border)
     }
 
     fn with_step(&self, setting: Setting, t: i32) -> (u32, Setting) {
@@ -188,15 +179,26 @@ impl From<raw::Answer> for Answer {
 /// The library's form of a setting.
 #[cfg(feature = "library")]
 pub fn raw_setting(setting: Setting) -> raw::Setting {
-    let Setting { kernel, cx, cy, a, b } = setting;
-    raw::Setting { kernel, cx, cy, a, b }
+    let Setting { kernel, cx, cy, a, b, border } = setting;
+    let (border, background) = raw_border(border);
+    raw::Setting { kernel, cx, cy, a, b, border, background }
+}
+
+/// The library's form of a border.
+#[cfg(feature = "library")]
+pub fn raw_border(border: Border) -> (u32, i32) {
+    match border {
+        Border::Wrapped => (0, 0),
+        Border::Background(value) => (1, value),
+    }
 }
 
 /// The second implementation's form of a setting.
 #[cfg(feature = "library")]
 pub fn plain_setting(setting: raw::Setting) -> Setting {
-    let raw::Setting { kernel, cx, cy, a, b } = setting;
-    Setting { kernel, cx, cy, a, b }
+    let raw::Setting { kernel, cx, cy, a, b, border, background } = setting;
+    let border = if border == 0 { Border::Wrapped } else { Border::Background(background) };
+    Setting { kernel, cx, cy, a, b, border }
 }
 
 #[cfg(feature = "library")]
@@ -212,16 +214,10 @@ impl Implementation for Library {
         raw::straighten(width, height, raw_setting(setting), picture, result, work).into()
     }
 
-    fn move_line(
-        &self,
-        n: usize,
-        kernel: u32,
-        d: i32,
-        line: &[i32],
-        result: &mut [i32],
-        work: &mut [i32],
-    ) -> Answer {
-        raw::move_line(n, kernel, d, line, result, work).into()
+    fn move_line(&self, call: &LineCall, result: &mut [i32], work: &mut [i32]) -> Answer {
+        let &LineCall { n, kernel, d, ref line, .. } = call;
+        let (border, background) = raw_border(call.border);
+        raw::move_line(n, kernel, d, border, background, line, result, work).into()
     }
 
     fn with_kernel(&self, setting: Setting, kernel: u32) -> Setting {
@@ -234,6 +230,11 @@ impl Implementation for Library {
 
     fn with_shears(&self, setting: Setting, a: i32, b: i32) -> Setting {
         plain_setting(raw::with_shears(raw_setting(setting), a, b))
+    }
+
+    fn with_border(&self, setting: Setting, border: Border) -> Setting {
+        let (border, background) = raw_border(border);
+        plain_setting(raw::with_border(raw_setting(setting), border, background))
     }
 
     fn with_step(&self, setting: Setting, t: i32) -> (u32, Setting) {

@@ -1,6 +1,6 @@
 //! Numbers, lines, pictures and settings from a fixed seed.
 
-use straightener::second::Setting;
+use straightener::second::{Border, Setting};
 
 /// Marsaglia's xorshift generator of 64 bits.
 pub struct Numbers(u64);
@@ -84,6 +84,16 @@ impl Numbers {
             cy: self.below(height),
             a: self.edgy(4_096),
             b: self.edgy(4_096),
+            border: self.border(),
+        }
+    }
+
+    /// A border: each of the two as often as the other.
+    pub fn border(&mut self) -> Border {
+        if self.once_in(2) {
+            Border::Wrapped
+        } else {
+            Border::Background(self.edgy(32_767))
         }
     }
 }

@@ -1,7 +1,7 @@
 -- `hexlines::answer_in` meets its contract.
 use mathlib.Core.Path.{refl, sym, _∙_}
 use borrow.Author.Needs.{needs}
-use Rattle.hexlines.proofs.Judged.{answer-ill, ill-line}
+use Rattle.hexlines.proofs.Judged.{roomy-in, answer-ill, ill-line}
 use Rattle.hexlines.proofs.answer_in.Statement.{statement}
 use Rattle.hexlines.proofs.answer_in.Tie as tie
 
@@ -9,7 +9,10 @@ well-formed-requires : tie.Need-well-formed-requires
 well-formed-requires c κs = search needs
 
 respond-requires : tie.Need-respond-requires
-respond-requires c κs = let t = c .before .before .before .before in (sym (t .before .well-formed .ensures) ∙ t .if1 .taken, search needs)
+respond-requires c κs =
+    let t = c .before .before .before .before in
+    let e = sym (t .before .well-formed .ensures) ∙ t .if1 .taken in
+    (e, roomy-in _ e _ _ _ (search needs) (search needs) (search needs))
 
 refuse-requires : tie.Need-refuse-requires
 refuse-requires c κs = search needs

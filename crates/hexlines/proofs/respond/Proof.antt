@@ -1,15 +1,15 @@
 -- `hexlines::respond` meets its contract.
-use Prim.Native.Nat.{ℕ, _*_, _≤_}
+use Prim.Native.Nat.{ℕ, _*_, _≤_, max}
 use mathlib.Core.List.{List, _++_}
-use mathlib.Core.Path.{_≡_, refl, sym, ap, ap₂, _∙_}
+use mathlib.Core.Path.{_≡_, refl, sym, ap, ap₂}
 use native.Mathlib.Omega.{arith}
 use borrow.Author.Needs.{needs}
-use lib.ListN.{drop}
+use lib.ListN.{length, drop}
 use lib.Seq.{length-take-le}
 use Rattle.hexlines.specs.Answer.{numberOf}
 use Rattle.hexlines.specs.Line.{sizeIn}
 use Rattle.hexlines.proofs.Outcome.{number-is, change-setting}
-use Rattle.hexlines.proofs.Judged.{well, small, accepted-line, refused-line, answer-accepted, answer-refused}
+use Rattle.hexlines.proofs.Judged.{well, accepted-line, refused-line, answer-accepted, answer-refused}
 use Rattle.hexlines.proofs.respond.Statement.{statement}
 use Rattle.hexlines.proofs.respond.Tie as tie
 
@@ -20,9 +20,6 @@ module _ (t : tie.After-judge) where
 
   abbrev line : List ℕ
   line = start .args .line .now
-
-  sized : t .before .before .before .field .result * t .before .before .field2 .result ≤ 4096
-  sized = small line _ _ (start .pre .0) (t .before .before .before .field .ensures .0) (t .before .before .field2 .ensures .0) .1
 
   number : t .judge .result ≡ numberOf line
   number = number-is line (t .before .change-in .ensures) (t .before .before .before .field .ensures .0) (t .before .before .field2 .ensures .0) (t .judge .ensures)
@@ -65,27 +62,28 @@ returns c =
     }
 
 mul-n : tie.Need-mul-n
-mul-n c = omega (arith, sized (c .before))
+mul-n c = omega (arith, whole (c .before), well (line (c .before)) (start (c .before) .pre .0) .small)
 
 slice-relend-prefix-straighten-in : tie.Need-slice-relend-prefix-straighten-in
-slice-relend-prefix-straighten-in c = omega (arith, sized (c .before .before .before))
+slice-relend-prefix-straighten-in c = let t = c .before .before .before in omega (arith, whole t, start t .pre .1 .0)
 
 slice-aggregate-straighten-in : tie.Need-slice-aggregate-straighten-in
-slice-aggregate-straighten-in c = sym (length-take-le _ _ (omega (arith, sized (c .before .before .before .before))))
+slice-aggregate-straighten-in c = let t = c .before .before .before .before in sym (length-take-le _ _ (omega (arith, whole t, start t .pre .1 .0)))
 
 slice-relend-prefix-straighten-in-2 : tie.Need-slice-relend-prefix-straighten-in-2
-slice-relend-prefix-straighten-in-2 c = omega (arith, sized (c .before .before .before .before))
+slice-relend-prefix-straighten-in-2 c = let t = c .before .before .before .before in omega (arith, whole t, start t .pre .1 .1)
 
 slice-aggregate-straighten-in-2 : tie.Need-slice-aggregate-straighten-in-2
-slice-aggregate-straighten-in-2 c = sym (length-take-le _ _ (omega (arith, sized (c .before .before .before .before .before))))
+slice-aggregate-straighten-in-2 c = let t = c .before .before .before .before .before in sym (length-take-le _ _ (omega (arith, whole t, start t .pre .1 .1)))
 
 straighten-in-requires : tie.Need-straighten-in-requires
 straighten-in-requires c κs =
     let b = c .before .before .before .before .before in
     let t = b .before in
     let s = start t in
-    let n = sized t in
-    let zero = none t (b .if1 .left) in (
+    let zero = none t (b .if1 .left) in
+    let room : 12 * max (t .before .before .before .field .result) (t .before .before .field2 .result) ≤ length (s .args .work .now) =
+    omega (arith, t .before .before .before .field .ensures .0, t .before .before .field2 .ensures .0, s .pre .1 .2 zero) in (
       record {
         well = s .pre .0;
         none = zero;
@@ -93,7 +91,7 @@ straighten-in-requires c κs =
         height = t .before .before .field2 .ensures .0;
         setting = change-setting (line t) (t .before .change-in .ensures) zero;
       },
-      (length-take-le _ _ (omega arith), length-take-le _ _ (omega arith), s .pre .1 .2),
+      (length-take-le _ _ (omega (arith, whole t, s .pre .1 .0)), length-take-le _ _ (omega (arith, whole t, s .pre .1 .1)), room),
     )
 
 same-length-2 : tie.Need-same-length-2

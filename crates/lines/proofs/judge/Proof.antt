@@ -10,6 +10,7 @@ use lib.ListN.{length}
 use mir.Facts.{toZ-ofZ}
 use Rattle.refusals.specs.Tests.{badSide, short, badKernel, beyondOf}
 use Rattle.refusals.proofs.Tests.{or-false, side-good, short-good}
+use Rattle.lines.specs.Border.{badBackground}
 use Rattle.lines.specs.Answer.{farthest, tooShort, judged}
 use Rattle.lines.proofs.judge.Statement.{statement}
 use Rattle.lines.proofs.judge.Tie as tie
@@ -66,24 +67,45 @@ long : (c : tie.Else2) → c .before .before .before .before .args .n ≤ length
 unfolding tooShort
 long c = short-good (or-false (short (length (c .before .before .before .before .args .line .now)) (c .before .before .before .before .args .n)) _ (two-failed c) .0)
 
+bad-background-requires : tie.Need-bad-background-requires
+bad-background-requires c κs = search needs
+
+-- the test of the background failed
+twelve-failed : (c : tie.Else5) → badBackground (c .before .before .before .before .before .before .before .before .before .args .border) ≡ false
+twelve-failed c = sym (c .before .bad-background .ensures) ∙ c .if5 .left
+
+returns-5 : tie.Need-returns-5
+unfolding judged badKernel
+returns-5 c =
+    let b = c .before .before .before in
+    rw (
+      one-failed (b .before .before .before .before),
+      two-failed (b .before .before),
+      four-failed b,
+      le-ltb 2 (b .before .before .before .before .before .before .args .kernel) (omega arith),
+      sym (c .before .bad-background .ensures) ∙ c .if5 .taken,
+    )
+    refl
+
 scanned-requires : tie.Need-scanned-requires
 scanned-requires c κs =
-    let b = c .before .before .before in (
+    let b = c .before .before .before .before .before in (
       side-good (one-failed (b .before .before)) .1,
       omega arith,
       omega (arith, long b),
       record { from = leZ-yes tt; to = leZ-yes tt },
     )
 
-returns-5 : tie.Need-returns-5
+returns-6 : tie.Need-returns-6
 unfolding judged badKernel
-returns-5 c =
-    let b = c .before .before in
+returns-6 c =
+    let b = c .before .before .before .before in
     rw (
       one-failed (b .before .before .before .before),
       two-failed (b .before .before),
       four-failed b,
       le-ltb 2 (b .before .before .before .before .before .before .args .kernel) (omega arith),
+      twelve-failed (c .before),
     )
     (c .scanned .ensures)
 
@@ -98,5 +120,7 @@ judge-spec =
     beyond-requires
     returns-3
     returns-4
+    bad-background-requires
+    returns-5
     scanned-requires
-    returns-5)
+    returns-6)

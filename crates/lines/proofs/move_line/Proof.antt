@@ -11,11 +11,11 @@ use Rattle.lines.proofs.move_line.Tie as tie
 
 -- the verdict, at what was given
 verdict-is : (c : tie.After-judge) → let a = c .before .args in
-    c .judge .result ≡ judged (a .n) (a .kernel) (a .d) (a .line .now) (length (a .result .now)) (length (a .work .now))
+    c .judge .result ≡ judged (a .n) (a .kernel) (a .d) (a .border) (a .line .now) (length (a .result .now)) (length (a .work .now))
 verdict-is c = rw (toZ-ofZ (c .before .fits .d)) at (c .judge .ensures)
 
 accepted-is : (c : tie.After-enum-told) → let a = c .before .before .before .args in
-    judged (a .n) (a .kernel) (a .d) (a .line .now) (length (a .result .now)) (length (a .work .now)) ≡ Accepted
+    judged (a .n) (a .kernel) (a .d) (a .border) (a .line .now) (length (a .result .now)) (length (a .work .now)) ≡ Accepted
 accepted-is c = sym (verdict-is (c .before .before)) ∙ c .enum-told .given .1
 
 judge-requires : tie.Need-judge-requires
@@ -27,18 +27,18 @@ enum-known-verdict c = search needs
 enum-told : tie.Need-enum-told
 enum-told c = search needs
 
-move-accepted-requires : tie.Need-move-accepted-requires
-move-accepted-requires c κs =
+move-cleared-requires : tie.Need-move-cleared-requires
+move-cleared-requires c κs =
     let t = c .before .before in
     let a = t .before .before .before .args in
     rw (toZ-ofZ (t .before .before .before .fits .d))
-    (accepted (a .n) (a .kernel) (a .d) (a .line .now) (length (a .result .now)) (length (a .work .now)) (accepted-is t))
+    (accepted (a .n) (a .kernel) (a .d) (a .border) (a .line .now) (length (a .result .now)) (length (a .work .now)) (accepted-is t))
 
 returns : tie.Need-returns
 returns c =
     let v = c .before in
     let a = v .before .before .before .args in
-    line-refused (a .n) (a .kernel) (a .d) (a .line .now) (a .result .now) (a .work .now) _ _ _ (sym (verdict-is (v .before .before)) ∙ v .verdict .given .1)
+    line-refused (a .n) (a .kernel) (a .d) (a .border) (a .line .now) (a .result .now) (a .work .now) _ _ _ (sym (verdict-is (v .before .before)) ∙ v .verdict .given .1)
 
 same-length : tie.Need-same-length
 same-length c = search needs
@@ -51,8 +51,8 @@ returns-2 c =
     let m = c .before .before in
     let t = m .before .before .before in
     let a = t .before .before .before .args in
-    let e = rw (toZ-ofZ (t .before .before .before .fits .d)) at (m .move-accepted .ensures) in
-    line-moved (a .n) (a .kernel) (a .d) (a .line .now) (a .result .now) (a .work .now) _ _ _ (accepted-is t) (e .0) (e .1 .0) (e .1 .1)
+    let e = rw (toZ-ofZ (t .before .before .before .fits .d)) at (m .move-cleared .ensures) in
+    line-moved (a .n) (a .kernel) (a .d) (a .border) (a .line .now) (a .result .now) (a .work .now) _ _ _ (accepted-is t) (e .0) (e .1 .0) (e .1 .1)
 
 pub move-line-spec : {M : Type 1} → statement M
 move-line-spec =
@@ -61,7 +61,7 @@ move-line-spec =
     judge-requires
     enum-known-verdict
     enum-told
-    move-accepted-requires
+    move-cleared-requires
     returns
     same-length
     same-length-2

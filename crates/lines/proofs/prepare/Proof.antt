@@ -8,7 +8,9 @@ use Rattle.lines.proofs.prepare.Statement.{statement}
 use Rattle.lines.proofs.prepare.Tie as tie
 
 coefficients-requires : tie.Need-coefficients-requires
-coefficients-requires c κs = search needs
+coefficients-requires c κs =
+    let s = c .before .before in
+    ((s .pre .0 .0, s .pre .0 .1), s .pre .1 (c .before .if1 .taken))
 
 same-length : tie.Need-same-length
 same-length c = search needs

@@ -1,28 +1,28 @@
--- `lines::treat` meets its contract: the line prepared, then weighed. Assumes nothing.
+-- `lines::treat` meets its contract: the row prepared, then its part weighed. Assumes nothing.
 use mathlib.Core.Path.{refl, _∙_}
-use Prim.Native.Nat.{_≤_}
 use native.Mathlib.Omega.{arith}
 use borrow.Author.Needs.{needs}
-use lib.ListN.{length}
 use mir.Facts.{toZ-ofZ}
 use Rattle.kernels.specs.Kernel.{kernelOf}
-use Rattle.lines.specs.InPlace.{prepared}
-use Rattle.lines.proofs.InPlace.{prepared-length, prepared-size}
+use Rattle.lines.proofs.InPlace.{prepared-length}
+use Rattle.lines.proofs.Kept.{prepared-within, spline-within}
 use Rattle.lines.proofs.treat.Statement.{statement}
 use Rattle.lines.proofs.treat.Tie as tie
 
 prepare-requires : tie.Need-prepare-requires
-prepare-requires c κs = search needs
+prepare-requires c κs =
+    let s = c .before in
+    let a = s .args in
+    ((omega (arith, s .pre .0), s .pre .0 .0, s .pre .0 .3), spline-within (a .kernel) (a .part) (a .row .now) (s .pre .1))
 
-weigh-line-requires : tie.Need-weigh-line-requires
-weigh-line-requires c κs =
+weigh-part-requires : tie.Need-weigh-part-requires
+weigh-part-requires c κs =
     let p = c .before .before in
     let s = p .before .before in
-    let t = s .args .line .now in
-    let κ = kernelOf (s .args .kernel) in
-    let some : 1 ≤ length (prepared κ t) = omega (arith, prepared-length κ t) in
-    rw (p .prepare .ensures, toZ-ofZ (s .fits .f))
-    ((some, s .pre .0 .2, s .pre .0 .3, s .pre .0 .4), prepared-size t (s .pre .0 .0) (s .pre .1) κ)
+    let a = s .args in
+    let κ = kernelOf (a .kernel) in
+    rw (p .prepare .ensures, toZ-ofZ (s .fits .f), prepared-length κ (a .row .now))
+    ((s .pre .0 .1, s .pre .0 .2, s .pre .0 .3, s .pre .0 .4, s .pre .0 .5), prepared-within κ (a .part) (a .row .now) (s .pre .0 .1) (s .pre .0 .2) (s .pre .1))
 
 same-length : tie.Need-same-length
 same-length c = search needs
@@ -32,7 +32,7 @@ returns c =
     let l = c .before in
     let p = l .before .before .before in
     let s = p .before .before in
-    l .weigh-line .ensures ∙ rw (p .prepare .ensures, toZ-ofZ (s .fits .f)) refl
+    l .weigh-part .ensures ∙ rw (p .prepare .ensures, toZ-ofZ (s .fits .f)) refl
 
 pub treat-spec : {M : Type 1} → statement M
-treat-spec = tie.close (tie.spec prepare-requires weigh-line-requires same-length returns)
+treat-spec = tie.close (tie.spec prepare-requires weigh-part-requires same-length returns)

@@ -28,8 +28,8 @@ copied c =
     ap (take n) (c .copy .ensures) ∙ take-at (take n (s .args .picture .now)) (drop n (s .args .result .now)) n (whole s)
 
 -- the part of work that is lent is as long as was asked
-lent : (c : tie.After-longer) → length (take (4 * c .longer .result) (c .before .args .work .now)) ≡ 4 * c .longer .result
-lent c = length-take-le (4 * c .longer .result) (c .before .args .work .now) (omega (arith, c .longer .ensures, c .before .pre .work-places))
+lent : (c : tie.After-longer) → length (take (12 * c .longer .result) (c .before .args .work .now)) ≡ 12 * c .longer .result
+lent c = length-take-le (12 * c .longer .result) (c .before .args .work .now) (omega (arith, c .longer .ensures, c .before .pre .work-places))
 
 mul-places : tie.Need-mul-places
 mul-places c = search needs
@@ -79,8 +79,8 @@ returns c =
     let s = l .before in
     let a = s .args in
     let n = places s in
-    let m = 4 * l .longer .result in
-    let straightened = straighten (kernelIn (a .setting)) (a .width) (a .height) (rowMoves (a .setting)) (columnMoves (a .setting)) in (
+    let m = 12 * l .longer .result in
+    let straightened = straighten (a .setting .border) (kernelIn (a .setting)) (a .width) (a .height) (rowMoves (a .setting)) (columnMoves (a .setting)) in (
       ap₂ _++_ (t .ensures .0 ∙ ap straightened (copied k))
           (ap (drop n) (k .copy .ensures) ∙ drop-at (take n (a .picture .now)) (drop n (a .result .now)) n (whole s)),
       (

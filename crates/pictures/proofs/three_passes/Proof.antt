@@ -14,7 +14,9 @@ use mir.Facts.{toZ-ofZ}
 use Rattle.arith.proofs.Machine.{sfits-natAbs}
 use Rattle.lists.specs.Grid.{Lines}
 use Rattle.lists.proofs.Grid.{row-lines, column-lines}
+use Rattle.settings.specs.declared.Border.{Border}
 use Rattle.kernels.specs.Kernel.{Kernel}
+use Rattle.lines.proofs.Border.{places-few}
 use Rattle.passes.specs.Count.{count}
 use Rattle.passes.proofs.Stages.{rows-pass, columns-pass, rows-pass-length, columns-pass-length, straighten-stages}
 use Rattle.pictures.specs.Pass.{Movable}
@@ -30,6 +32,9 @@ module _ (s : tie.Start) where
 
   abbrev H : ℕ
   H = s .args .height
+
+  abbrev β : Border
+  β = s .args .setting .border
 
   abbrev κ : Kernel
   κ = kernelIn (s .args .setting)
@@ -48,16 +53,16 @@ module _ (s : tie.Start) where
 
   -- the picture after each pass
   abbrev once : List ℤ
-  once = rows-pass κ W H rows (s .args .picture .now)
+  once = rows-pass β κ W H rows (s .args .picture .now)
 
   abbrev twice : List ℤ
-  twice = columns-pass κ W H columns once
+  twice = columns-pass β κ W H columns once
 
   once-long : length once ≡ W * H
-  once-long = rows-pass-length κ W H rows (s .args .picture .now)
+  once-long = rows-pass-length β κ W H rows (s .args .picture .now)
 
   twice-long : length twice ≡ W * H
-  twice-long = columns-pass-length κ W H columns once
+  twice-long = columns-pass-length β κ W H columns once
 
   a-is : toZ w32 (ofZ w32 (s .args .setting .a)) ≡ s .args .setting .a
   a-is = toZ-ofZ (sfits-natAbs (s .args .setting .a) (s .pre .0 .shears .0) (lit< tt))
@@ -66,31 +71,33 @@ module _ (s : tie.Start) where
   b-is = toZ-ofZ (sfits-natAbs (s .args .setting .b) (s .pre .0 .shears .1) (lit< tt))
 
   rows-movable : (kernel room : ℕ) → kernel ≤ 2 → room ≡ length (s .args .work .now)
-      → Movable W H kernel (s .args .setting .a) (s .args .setting .cy) room
+      → Movable β W H kernel (s .args .setting .a) (s .args .setting .cy) room
   rows-movable kernel room known e =
       let f = s .pre .0 in
       record {
         some = f .width .0;
-        short = omega (arith, f .width .1);
+        short = f .width .1;
         few = f .height .1;
         known = known;
         slight = f .shears .0;
         central = omega (arith, f .centre .1, f .height .1);
-        roomy = omega (arith, f .work-places);
+        plain = omega (arith, f .background);
+        roomy = omega (arith, places-few β W, f .work-places);
       }
 
   columns-movable : (kernel room : ℕ) → kernel ≤ 2 → room ≡ length (s .args .work .now)
-      → Movable H W kernel (s .args .setting .b) (s .args .setting .cx) room
+      → Movable β H W kernel (s .args .setting .b) (s .args .setting .cx) room
   columns-movable kernel room known e =
       let f = s .pre .0 in
       record {
         some = f .height .0;
-        short = omega (arith, f .height .1);
+        short = f .height .1;
         few = f .width .1;
         known = known;
         slight = f .shears .1;
         central = omega (arith, f .centre .0, f .width .1);
-        roomy = omega (arith, f .work-places);
+        plain = omega (arith, f .background);
+        roomy = omega (arith, places-few β H, f .work-places);
       }
 
   -- the picture has its rows and columns, whatever it holds
@@ -104,26 +111,26 @@ module _ (s : tie.Start) where
 first-is : (c : tie.After-pass) → c .pass .last .0 ≡ once (c .before .before .before .before .before)
 first-is c =
     let s = c .before .before .before .before .before in
-    rw (a-is s) at (c .pass .ensures .0) ∙ rows-strided (κ s) (rows s) (s .args .picture .now) (wide s) (high s) (s .pre .1)
+    rw (a-is s) at (c .pass .ensures .0) ∙ rows-strided (β s) (κ s) (rows s) (s .args .picture .now) (wide s) (high s) (s .pre .1)
 
 second-is : (c : tie.After-pass2) → c .pass2 .last .0 ≡ twice (c .before .before .before .before .before .before .before .before .before .before)
 second-is c =
     let s = c .before .before .before .before .before .before .before .before .before .before in
     rw (b-is s, first-is (c .before .before .before .before .before)) at (c .pass2 .ensures .0)
-    ∙ columns-strided (κ s) (columns s) (once s) (wide s) (high s) (once-long s)
+    ∙ columns-strided (β s) (κ s) (columns s) (once s) (wide s) (high s) (once-long s)
 
 pass-requires : tie.Need-pass-requires
 pass-requires c κs =
     let s = c .before .before .before .before in
     rw (a-is s)
-    (rows-movable s _ _ (omega (arith, s .pre .0 .kernel)) refl, (as-rows s (s .args .picture .now) (s .pre .1), first-range (κ s) (rows s) (columns s) (s .args .picture .now) (wide s) (high s) (fit-range (s .pre .0))))
+    (rows-movable s _ _ (omega (arith, s .pre .0 .kernel)) refl, (as-rows s (s .args .picture .now) (s .pre .1), first-range (β s) (κ s) (rows s) (columns s) (s .args .picture .now) (wide s) (high s) (s .pre .0 .background) (fit-range (s .pre .0))))
 
 pass-requires-2 : tie.Need-pass-requires-2
 pass-requires-2 c κs =
     let p = c .before .before .before .before in
     let s = p .before .before .before .before .before in
     rw (b-is s, first-is p)
-    (columns-movable s _ _ (omega (arith, s .pre .0 .kernel)) (p .pass .kept .1 .0), (as-columns s (once s) (once-long s), second-range (κ s) (rows s) (columns s) (s .args .picture .now) (wide s) (high s) (fit-range (s .pre .0))))
+    (columns-movable s _ _ (omega (arith, s .pre .0 .kernel)) (p .pass .kept .1 .0), (as-columns s (once s) (once-long s), second-range (β s) (κ s) (rows s) (columns s) (s .args .picture .now) (wide s) (high s) (s .pre .0 .background) (fit-range (s .pre .0))))
 
 pass-requires-3 : tie.Need-pass-requires-3
 pass-requires-3 c κs =
@@ -131,7 +138,7 @@ pass-requires-3 c κs =
     let o = p .before .before .before .before .before in
     let s = o .before .before .before .before .before in
     rw (a-is s, second-is p)
-    (rows-movable s _ _ (omega (arith, s .pre .0 .kernel)) (p .pass2 .kept .1 .0 ∙ o .pass .kept .1 .0), (as-rows s (twice s) (twice-long s), third-range (κ s) (rows s) (columns s) (s .args .picture .now) (wide s) (high s) (fit-range (s .pre .0))))
+    (rows-movable s _ _ (omega (arith, s .pre .0 .kernel)) (p .pass2 .kept .1 .0 ∙ o .pass .kept .1 .0), (as-rows s (twice s) (twice-long s), third-range (β s) (κ s) (rows s) (columns s) (s .args .picture .now) (wide s) (high s) (s .pre .0 .background) (fit-range (s .pre .0))))
 
 add-result : tie.Need-add-result
 add-result c = search needs
@@ -152,8 +159,8 @@ returns c =
     let o = p .before .before .before .before .before in
     let s = o .before .before .before .before .before in (
       rw (a-is s, second-is p) at (t .pass3 .ensures .0)
-          ∙ rows-strided (κ s) (rows s) (twice s) (wide s) (high s) (twice-long s)
-          ∙ sym (straighten-stages (κ s) (rows s) (columns s) (s .args .picture .now) (wide s) (high s)),
+          ∙ rows-strided (β s) (κ s) (rows s) (twice s) (wide s) (high s) (twice-long s)
+          ∙ sym (straighten-stages (β s) (κ s) (rows s) (columns s) (s .args .picture .now) (wide s) (high s)),
       unfold count in rw (a-is s, b-is s) at (ap₂ _+_ (ap₂ _+_ (o .pass .ensures .1 .0) (p .pass2 .ensures .1 .0)) (t .pass3 .ensures .1 .0)),
     )
 

@@ -22,8 +22,8 @@ places-requires c κs = search needs
 places-requires-2 : tie.Need-places-requires-2
 places-requires-2 c κs = search needs
 
-places-requires-3 : tie.Need-places-requires-3
-places-requires-3 c κs = search needs
+work-places-requires : tie.Need-work-places-requires
+work-places-requires c κs = search needs
 
 slice-aggregate-finish : tie.Need-slice-aggregate-finish
 slice-aggregate-finish c = search needs
@@ -54,7 +54,7 @@ last-spec =
     line-room-requires
     places-requires
     places-requires-2
-    places-requires-3
+    work-places-requires
     slice-aggregate-finish
     least-requires
     slice-aggregate-finish-2

@@ -17,8 +17,8 @@ places-requires c κs = search needs
 places-requires-2 : tie.Need-places-requires-2
 places-requires-2 c κs = search needs
 
-places-requires-3 : tie.Need-places-requires-3
-places-requires-3 c κs = search needs
+work-places-requires : tie.Need-work-places-requires
+work-places-requires c κs = search needs
 
 least-requires : tie.Need-least-requires
 least-requires c κs = search needs
@@ -49,7 +49,7 @@ turn-spec =
     line-room-requires
     places-requires
     places-requires-2
-    places-requires-3
+    work-places-requires
     least-requires
     least-requires-2
     slice-aggregate-lines

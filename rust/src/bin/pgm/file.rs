@@ -48,6 +48,24 @@ impl Reader<'_> {
 }
 
 impl Picture {
+    /// The part of a picture that begins at a column and a row.
+    pub fn part(&self, column: usize, row: usize, width: usize, height: usize) -> Outcome<Picture> {
+        let inside = |first: usize, size: usize, of: usize| first < of && (1..=of - first).contains(&size);
+        if !inside(column, width, self.width) || !inside(row, height, self.height) {
+            return Err(format!(
+                "the part must lie in the picture, which is {} by {}",
+                self.width, self.height
+            )
+            .into());
+        }
+        let rows = self.greys.chunks(self.width).skip(row).take(height);
+        Ok(Picture {
+            width,
+            height,
+            greys: rows.flat_map(|row| &row[column..column + width]).copied().collect(),
+        })
+    }
+
     /// Reads a PGM file.
     pub fn from_pgm(bytes: &[u8]) -> Outcome<Picture> {
         let mut reader = Reader { bytes, at: 0 };

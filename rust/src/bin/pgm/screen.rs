@@ -62,6 +62,7 @@ pub fn tilted(step: i32) -> Picture {
 #[cfg(test)]
 mod tests {
     use super::*;
+    use straightener::{Border, Kernel};
 
     /// The mean distance in greys between two pictures, leaving out a border.
     fn distance(a: &Picture, b: &Picture) -> f64 {
@@ -76,9 +77,11 @@ mod tests {
     #[test]
     fn straightening_levels_the_tilted_screen() {
         let (level, tilted) = (tilted(0), tilted(150));
-        let turned = crate::straighten(&tilted, straightener::Kernel::Spline, 150).expect("a good picture");
-        let turned = Picture::from_pgm(&turned).expect("a PGM file");
-        let (before, after) = (distance(&tilted, &level), distance(&turned, &level));
-        assert!(after < before / 2.0, "{before} greys apart before, {after} after");
+        for border in [Border::Wrapped, Border::Background(128 * GREYS[0] as i32)] {
+            let turned = crate::straighten(&tilted, Kernel::Spline, 150, border).expect("a good picture");
+            let turned = Picture::from_pgm(&turned).expect("a PGM file");
+            let (before, after) = (distance(&tilted, &level), distance(&turned, &level));
+            assert!(after < before / 2.0, "{before} greys apart before, {after} after");
+        }
     }
 }

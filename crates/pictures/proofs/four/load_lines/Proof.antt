@@ -1,43 +1,46 @@
--- `load_lines` replaces row after row of work by a line of the picture. Assumes nothing.
+-- `load_lines` replaces row after row of work by a line of the picture, set in as its border has it. Assumes nothing.
 use Prim.Native.Nat.{ℕ, _+_, _*_, _-_, _≤_, _<_}
-use mathlib.Core.Path.{_≡_, _∙_}
-use mathlib.Core.List.{List}
+use mathlib.Core.Path.{_≡_, ap, _∙_, subst}
+use native.Mathlib.Nat.{not-suc-le-zero}
 use native.Mathlib.Omega.{arith}
 use borrow.Author.Needs.{needs}
 use borrow.Rule.Slice.PartMut.{same-len-mid}
-use lib.IntN.{ℤ}
-use lib.ListN.{length}
+use lib.ListN.{length, take, drop}
 use Rattle.lists.specs.Grid.{lineOf, rowOf}
-use Rattle.lists.proofs.Rows.{row-in, row-length}
-use Rattle.lists.proofs.Grid.{lineOf-length}
+use Rattle.lists.proofs.Rows.{row-in, row-length, row-part}
+use Rattle.lines.specs.Row.{setIn, Alike}
 use Rattle.pictures.proofs.Laid.{laid-inside}
-use Rattle.pictures.proofs.Rows.{treated, treated-none, treated-next, treated-more, treated-row}
+use Rattle.pictures.proofs.Rows.{rows-more}
 use Rattle.pictures.proofs.four.load_lines.Statement.{statement}
 use Rattle.pictures.proofs.four.load_lines.Tie as tie
 
 abbrev Inv-loop : tie.InvT-loop
-Inv-loop picture at along across work₀ n i₀ work i = (i ≤ 4) × (length work ≡ length work₀) × (work ≡ treated n (λ (i : ℕ) (s : List ℤ). lineOf (at + i * across) along n picture) work₀ i)
+Inv-loop border picture at along across work₀ n part m i₀ work i =
+    (i ≤ 4) × (length work ≡ length work₀) × ((j : ℕ) → j < i → Alike part (rowOf m work j) (setIn border (lineOf (at + j * across) along n picture)))
 
 abbrev μ-loop : tie.MeasureT-loop
-μ-loop picture at along across work₀ n i₀ work i = 4 - i
+μ-loop border picture at along across work₀ n part m i₀ work i = 4 - i
+
+-- a row's places
+abbrev m : tie.After-places-of Inv-loop μ-loop → ℕ
+m p = p .places-of .result
+
+room : (p : tie.After-places-of Inv-loop μ-loop) → 4 * m p ≤ length (p .before .args .work .now)
+room p = rw (p .places-of .ensures) (p .before .pre .0 .2)
 
 -- line i's place k lies in the picture, and its row in work
-source : (c : tie.In-loop Inv-loop μ-loop) (k : ℕ) → k < c .before .before .args .n
-    → c .before .before .args .at + k * c .before .before .args .along + c .before .loop .i * c .before .before .args .across < length (c .before .before .args .picture .now)
-source c k h = laid-inside (c .before .before .args .at) (c .before .before .pre .1) (c .before .loop .i) k (omega arith) h
+source : (c : tie.In-loop Inv-loop μ-loop) (k : ℕ) → k < c .before .before .before .args .n
+    → let a = c .before .before .before .args in a .at + k * a .along + c .before .loop .i * a .across < length (a .picture .now)
+source c k h = let s = c .before .before .before in laid-inside (s .args .at) (s .pre .1) (c .before .loop .i) k (omega arith) h
 
-within : (c : tie.In-loop Inv-loop μ-loop) → c .before .loop .i * c .before .before .args .n + c .before .before .args .n ≤ length (c .before .before .args .work .now)
-within c = omega (arith, row-in (c .before .before .args .n) 4 (c .before .loop .i) (omega arith), c .before .before .pre .0 .1)
+within : (c : tie.In-loop Inv-loop μ-loop) → c .before .loop .i * m (c .before .before) + m (c .before .before) ≤ length (c .before .before .before .args .work .now)
+within c = omega (arith, row-in (m (c .before .before)) 4 (c .before .loop .i) (omega arith), room (c .before .before))
 
--- what row i becomes
-abbrev loaded : (s : tie.Start Inv-loop μ-loop) → ℕ → List ℤ → List ℤ
-loaded s i t = lineOf (s .args .at + i * s .args .across) (s .args .along) (s .args .n) (s .args .picture .now)
-
-long : (s : tie.Start Inv-loop μ-loop) (i : ℕ) → i < 4 → length (loaded s i (rowOf (s .args .n) (s .args .work .now) i)) ≡ s .args .n
-long s i l = lineOf-length (s .args .at + i * s .args .across) (s .args .along) (s .args .n) (s .args .picture .now)
+places-of-requires : tie.Need-places-of-requires Inv-loop μ-loop
+places-of-requires c κs = search needs
 
 loop-holds : tie.Need-loop-holds Inv-loop μ-loop
-loop-holds c = (omega arith, search needs, treated-none _ _ _)
+loop-holds c = (omega arith, search needs, λ j h. absurd (not-suc-le-zero h))
 
 mul-s : tie.Need-mul-s Inv-loop μ-loop
 mul-s c = omega (arith, within c)
@@ -45,31 +48,38 @@ mul-s c = omega (arith, within c)
 add-e : tie.Need-add-e Inv-loop μ-loop
 add-e c = omega (arith, within c)
 
-mul-load-line : tie.Need-mul-load-line Inv-loop μ-loop
-mul-load-line c = omega (arith, source c 0 (omega arith))
+mul-set-in : tie.Need-mul-set-in Inv-loop μ-loop
+mul-set-in c = omega (arith, source c 0 (omega (arith, c .before .before .before .pre .0 .0)))
 
-add-load-line : tie.Need-add-load-line Inv-loop μ-loop
-add-load-line c = omega (arith, source c 0 (omega arith))
+add-set-in : tie.Need-add-set-in Inv-loop μ-loop
+add-set-in c = omega (arith, source c 0 (omega (arith, c .before .before .before .pre .0 .0)))
 
-mul-load-line-2 : tie.Need-mul-load-line-2 Inv-loop μ-loop
-mul-load-line-2 c = omega (arith, within c)
+mul-set-in-2 : tie.Need-mul-set-in-2 Inv-loop μ-loop
+mul-set-in-2 c = omega (arith, within c)
 
-sub-load-line : tie.Need-sub-load-line Inv-loop μ-loop
-sub-load-line c = omega arith
+sub-set-in : tie.Need-sub-set-in Inv-loop μ-loop
+sub-set-in c = omega arith
 
-part-load-line-start : tie.Need-part-load-line-start Inv-loop μ-loop
-part-load-line-start c = omega arith
+part-set-in-start : tie.Need-part-set-in-start Inv-loop μ-loop
+part-set-in-start c = omega arith
 
-part-load-line-end : tie.Need-part-load-line-end Inv-loop μ-loop
-part-load-line-end c = omega (arith, within c)
+part-set-in-end : tie.Need-part-set-in-end Inv-loop μ-loop
+part-set-in-end c = omega (arith, within c)
 
-load-line-requires : tie.Need-load-line-requires Inv-loop μ-loop
-load-line-requires c κs =
+-- the rows as they stand
+standing : (l : tie.At-loop Inv-loop μ-loop) → 4 * m (l .before) ≤ length (l .loop .work)
+standing l = omega (arith, room (l .before), l .loop .inv .1)
+
+row-long : (l : tie.At-loop Inv-loop μ-loop) → l .loop .i < 4 → length (take (l .loop .i * m (l .before) + m (l .before) - l .loop .i * m (l .before)) (drop (l .loop .i * m (l .before)) (l .loop .work))) ≡ m (l .before)
+row-long l h = ap length (row-part (m (l .before)) (l .loop .work) (l .loop .i)) ∙ row-length (m (l .before)) (l .loop .work) (l .loop .i) 4 h (standing l)
+
+set-in-requires : tie.Need-set-in-requires Inv-loop μ-loop
+set-in-requires c κs =
     let l = c .before .before in
-    let s = l .before in
+    let p = l .before in
+    let s = p .before in
     let a = s .args in
-    rw (treated-next (a .n) (loaded s) (a .work .now) (s .pre .0 .1) (long s) (l .loop .i) (l .loop .work) (omega arith) (l .loop .inv .2), row-length (a .n) (a .work .now) (l .loop .i) 4 (omega arith) (s .pre .0 .1))
-    (λ (k : ℕ) (h : k < a .n). omega (arith, source (c .before) k h))
+    ((s .pre .0 .1, row-long l (omega arith) ∙ p .places-of .ensures), (s .pre .0 .3, λ (k : ℕ) (h : k < a .n). omega (arith, source (c .before) k h)))
 
 add-i : tie.Need-add-i Inv-loop μ-loop
 add-i c = omega arith
@@ -80,14 +90,15 @@ loop-less c = omega arith
 loop-again : tie.Need-loop-again Inv-loop μ-loop
 loop-again c =
     let l = c .before .before .before .before in
-    let s = l .before in
+    let p = l .before in
+    let s = p .before in
     let a = s .args in
-    let v = c .before .load-line in
-    let m = treated-next (a .n) (loaded s) (a .work .now) (s .pre .0 .1) (long s) (l .loop .i) (l .loop .work) (omega arith) (l .loop .inv .2) in (
+    let v = c .before .set-in in
+    let row = v .last .1 .1 .1 .1 .0 in (
       omega arith,
-      same-len-mid (l .loop .i * a .n) (l .loop .i * a .n + a .n - l .loop .i * a .n) (l .loop .work) (v .last .1 .1 .1 .0) (v .kept .1 .1 .1 .0) ∙ l .loop .inv .1,
-      treated-more (a .n) (loaded s) (a .work .now) (s .pre .0 .1) (long s) (l .loop .i) (l .loop .work) _ (omega arith) (l .loop .inv .2)
-          (rw (m, row-length (a .n) (a .work .now) (l .loop .i) 4 (omega arith) (s .pre .0 .1)) at (v .ensures)),
+      same-len-mid (l .loop .i * m p) (l .loop .i * m p + m p - l .loop .i * m p) (l .loop .work) row (v .kept .1 .1 .1 .1 .0) ∙ l .loop .inv .1,
+      rows-more (m p) (l .loop .work) row (l .loop .i) (omega arith) (standing l) (v .kept .1 .1 .1 .1 .0 ∙ row-long l (omega arith))
+          (λ j t. Alike (a .part) t (setIn (a .border) (lineOf (a .at + j * a .across) (a .along) (a .n) (a .picture .now)))) (l .loop .inv .2) (v .ensures),
     )
 
 same-length : tie.Need-same-length Inv-loop μ-loop
@@ -95,10 +106,12 @@ same-length c = search needs
 
 returns : tie.Need-returns Inv-loop μ-loop
 returns c =
-    let s = c .before .before in
-    let a = s .args in
+    let p = c .before .before in
+    let a = p .before .args in
     let e : c .before .loop .i ≡ 4 = omega arith in
-    rw (c .before .loop .inv .2, e) (treated-row (a .n) (loaded s) (a .work .now) (s .pre .0 .1) (long s))
+    λ (i : ℕ) (l : i < 4).
+    subst (λ (n : ℕ). Alike (a .part) (rowOf n (c .before .loop .work) i) (setIn (a .border) (lineOf (a .at + i * a .across) (a .along) (a .n) (a .picture .now)))) (p .places-of .ensures)
+    (c .before .loop .inv .2 i (omega arith))
 
 pub load-lines-spec : {M : Type 1} → statement M
 load-lines-spec =
@@ -106,16 +119,17 @@ load-lines-spec =
     (tie.spec
     Inv-loop
     μ-loop
+    places-of-requires
     loop-holds
     mul-s
     add-e
-    mul-load-line
-    add-load-line
-    mul-load-line-2
-    sub-load-line
-    part-load-line-start
-    part-load-line-end
-    load-line-requires
+    mul-set-in
+    add-set-in
+    mul-set-in-2
+    sub-set-in
+    part-set-in-start
+    part-set-in-end
+    set-in-requires
     add-i
     loop-less
     loop-again

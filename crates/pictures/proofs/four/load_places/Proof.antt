@@ -1,82 +1,76 @@
--- `load_places` gathers place k of four lines in each turn: the rows are the lines. Assumes nothing.
-use Prim.Native.Nat.{ℕ, _+_, _*_, _-_, _≤_, _<_}
-use mathlib.Core.Path.{_≡_, refl, _∙_}
-use mathlib.Core.List.{[], _∷_}
+-- `load_places` gathers the lines as their border has them. Assumes nothing.
+use Prim.Native.Nat.{ℕ, _*_, _≤_, _<_}
+use mathlib.Core.Path.{sym, ap, _∙_, subst}
+use mathlib.Core.List.{List}
 use native.Mathlib.Omega.{arith}
 use borrow.Author.Needs.{needs}
-use lib.ListN.{length, getD}
-use Rattle.pictures.proofs.Laid.{laid-inside}
-use Rattle.pictures.proofs.Rows.{gathered, gathered-none, gathered-more, gathered-row, each-four}
+use lib.IntN.{ℤ}
+use lib.ListN.{length}
+use mir.Syntax.{w32}
+use Rattle.arith.proofs.Machine.{read-back}
+use Rattle.lists.specs.Line.{line}
+use Rattle.lists.specs.Grid.{rowOf}
+use Rattle.settings.specs.declared.Border.{Border}
+use Rattle.settings.specs.declared.Border.the-variants.{Wrapped, Background}
+use Rattle.pictures.specs.Four.{FourLoaded}
+use Rattle.lines.specs.Row.{places, Holds}
+use Rattle.pictures.proofs.Rows.{gathered-row}
 use Rattle.pictures.proofs.four.load_places.Statement.{statement}
 use Rattle.pictures.proofs.four.load_places.Tie as tie
 
-abbrev Inv-loop : tie.InvT-loop
-Inv-loop picture at along across work₀ n k₀ work k = (k ≤ n) × (length work ≡ length work₀) × (work ≡ gathered at along across n picture work₀ k)
+enum-told : tie.Need-enum-told
+enum-told c = search needs
 
-abbrev μ-loop : tie.MeasureT-loop
-μ-loop picture at along across work₀ n k₀ work k = n - k
+gather-requires : tie.Need-gather-requires
+gather-requires c κs =
+    let s = c .before .before .before in
+    ((omega arith, subst (λ (β : Border). 4 * places β (s .args .n) ≤ length (s .args .work .now)) (c .before .enum-told .given .1) (s .pre .0 .2)), s .pre .1)
 
-loop-holds : tie.Need-loop-holds Inv-loop μ-loop
-loop-holds c = (omega arith, search needs, gathered-none _ _ _ _ _ _)
+enum-known-border : tie.Need-enum-known-border
+enum-known-border c = search needs
 
--- a place of the four
-source : (c : tie.In-loop Inv-loop μ-loop) (i : ℕ) → i < 4
-    → c .before .before .args .at + c .before .loop .k * c .before .before .args .along + i * c .before .before .args .across < length (c .before .before .args .picture .now)
-source c i l = laid-inside (c .before .before .args .at) (c .before .before .pre .1) i (c .before .loop .k) l (omega arith)
+gather-between-requires : tie.Need-gather-between-requires
+gather-between-requires c κs =
+    let s = c .before .before .before .before in
+    let room = subst (λ (β : Border). 4 * places β (s .args .n) ≤ length (s .args .work .now)) (c .before .before .border .given .1) (s .pre .0 .2) in
+    let holds = subst (λ (β : Border). Holds β (s .args .n) (s .args .part)) (c .before .before .border .given .1) (s .pre .0 .3) in
+    ((s .pre .0 .0, s .pre .0 .1, omega (arith, room), holds), s .pre .1)
 
-none : (i : ℕ) → i < 4 → _≡_ {A = ℕ} (getD (0 ∷ 0 ∷ 0 ∷ 0 ∷ []) i 0) 0
-none = each-four _ refl refl refl refl
-
-mul-copy-four : tie.Need-mul-copy-four Inv-loop μ-loop
-mul-copy-four c = omega (arith, source c 0 (omega arith))
-
-add-copy-four : tie.Need-add-copy-four Inv-loop μ-loop
-add-copy-four c = omega (arith, source c 0 (omega arith))
-
-copy-four-requires : tie.Need-copy-four-requires Inv-loop μ-loop
-copy-four-requires c κs =
-    let a = c .before .before .before .args in (
-      λ (i : ℕ) (l : i < 4). rw (none i l) (omega (arith, source (c .before) i l)),
-      omega (arith, c .before .before .before .pre .0),
-    )
-
-add-k : tie.Need-add-k Inv-loop μ-loop
-add-k c = omega arith
-
-loop-less : tie.Need-loop-less Inv-loop μ-loop
-loop-less c = omega arith
-
-loop-again : tie.Need-loop-again Inv-loop μ-loop
-loop-again c =
-    let v = c .before .copy-four in
-    let l = c .before .before .before .before in
-    let a = l .before .args in (
-      omega arith,
-      v .kept .1 .1 .1 .1 .0 ∙ l .loop .inv .1,
-      gathered-more (a .at) (a .along) (a .across) (a .n) (a .picture .now) (a .work .now) (l .loop .k) (l .loop .work) _ (λ (i : ℕ). getD (0 ∷ 0 ∷ 0 ∷ 0 ∷ []) i 0) none (l .loop .inv .2) (v .ensures),
-    )
-
-same-length : tie.Need-same-length Inv-loop μ-loop
+same-length : tie.Need-same-length
 same-length c = search needs
 
-returns : tie.Need-returns Inv-loop μ-loop
+returns : tie.Need-returns
 returns c =
-    let a = c .before .before .args in
-    let e : c .before .loop .k ≡ a .n = omega arith in
-    rw (c .before .loop .inv .2, e) (gathered-row (a .at) (a .along) (a .across) (a .n) (a .picture .now) (a .work .now) (c .before .before .pre .0))
+    let s = c .before .before .before .before .before in
+    let a = s .args in
+    let e = c .before .before .before .enum-told .given .1 in
+    let room = subst (λ (β : Border). 4 * places β (a .n) ≤ length (a .work .now)) e (s .pre .0 .2) in
+    let loaded : FourLoaded Wrapped (a .at) (a .along) (a .across) (a .n) (a .part) (a .picture .now) (c .before .gather .last .1 .1 .1 .1 .0) =
+    λ (i : ℕ) (l : i < 4) (p : ℕ) (low : a .part .lo ≤ p) (high : p < a .part .hi).
+    ap (λ (t : List ℤ). line t p) (ap (λ (t : List ℤ). rowOf (a .n) t i) (c .before .gather .ensures) ∙ gathered-row (a .at) (a .along) (a .across) (a .n) (a .picture .now) (a .work .now) room i l) in
+    subst (λ (β : Border). FourLoaded β (a .at) (a .along) (a .across) (a .n) (a .part) (a .picture .now) (c .before .gather .last .1 .1 .1 .1 .0)) (sym e) loaded
+
+same-length-2 : tie.Need-same-length-2
+same-length-2 c = search needs
+
+returns-2 : tie.Need-returns-2
+returns-2 c =
+    let s = c .before .before .before .before .before .before in
+    let a = s .args in
+    let v = c .before .gather-between in
+    let b = c .before .before .before .before .border .given in
+    let e = read-back w32 _ (c .before .before .before .known-told .given .0 .1) in
+    subst (λ (β : Border). FourLoaded β (a .at) (a .along) (a .across) (a .n) (a .part) (a .picture .now) (v .last .1 .1 .1 .1 .1 .0)) (ap Background e ∙ sym (b .1)) (v .ensures)
 
 pub load-places-spec : {M : Type 1} → statement M
 load-places-spec =
     tie.close
     (tie.spec
-    Inv-loop
-    μ-loop
-    loop-holds
-    mul-copy-four
-    add-copy-four
-    copy-four-requires
-    add-k
-    loop-less
-    loop-again
+    enum-told
+    gather-requires
+    enum-known-border
+    gather-between-requires
     same-length
-    returns)
+    returns
+    same-length-2
+    returns-2)

@@ -1,10 +1,10 @@
 -- `store_lines` lays the rows of work line after line. Assumes nothing.
 use Prim.Native.Nat.{ℕ, _+_, _*_, _-_, _≤_, _<_}
-use mathlib.Core.Path.{refl, _≡_, _∙_, ap}
+use mathlib.Core.Path.{refl, _≡_, _∙_}
 use native.Mathlib.Omega.{arith}
 use borrow.Author.Needs.{needs}
 use lib.ListN.{length, getD}
-use Rattle.lists.specs.Grid.{put, rowOf}
+use Rattle.lists.specs.Grid.{rowOf}
 use Rattle.lists.specs.Line.{rolled}
 use Rattle.lists.proofs.Rows.{row-in, row-length, row-part}
 use Rattle.pictures.specs.Four.{laid}
@@ -13,18 +13,18 @@ use Rattle.pictures.proofs.four.store_lines.Statement.{statement}
 use Rattle.pictures.proofs.four.store_lines.Tie as tie
 
 abbrev Inv-loop : tie.InvT-loop
-Inv-loop picture₀ at along across work n turns i₀ picture i = (i ≤ 4) × (length picture ≡ length picture₀) × (picture ≡ laid at along across n (λ (i : ℕ). rolled (getD turns i 0) (rowOf n work i)) i picture₀)
+Inv-loop picture₀ at along across work n m starts i₀ picture i = (i ≤ 4) × (length picture ≡ length picture₀) × (picture ≡ laid at along across n (λ (i : ℕ). rolled (getD starts i 0) (rowOf m work i)) i picture₀)
 
 abbrev μ-loop : tie.MeasureT-loop
-μ-loop picture₀ at along across work n turns i₀ picture i = 4 - i
+μ-loop picture₀ at along across work n m starts i₀ picture i = 4 - i
 
 -- line i's place k lies in the picture, and its row in work
 target : (c : tie.In-loop Inv-loop μ-loop) (k : ℕ) → k < c .before .before .args .n
     → c .before .before .args .at + k * c .before .before .args .along + c .before .loop .i * c .before .before .args .across < length (c .before .before .args .picture .now)
 target c k h = laid-inside (c .before .before .args .at) (c .before .before .pre .1 .0) (c .before .loop .i) k (omega arith) h
 
-within : (c : tie.In-loop Inv-loop μ-loop) → c .before .loop .i * c .before .before .args .n + c .before .before .args .n ≤ length (c .before .before .args .work .now)
-within c = omega (arith, row-in (c .before .before .args .n) 4 (c .before .loop .i) (omega arith), c .before .before .pre .0 .1)
+within : (c : tie.In-loop Inv-loop μ-loop) → c .before .loop .i * c .before .before .args .m + c .before .before .args .m ≤ length (c .before .before .args .work .now)
+within c = omega (arith, row-in (c .before .before .args .m) 4 (c .before .loop .i) (omega arith), c .before .before .pre .0 .2)
 
 loop-holds : tie.Need-loop-holds Inv-loop μ-loop
 loop-holds c = (omega arith, search needs, laid-none _ _ _ _ _ _)
@@ -64,8 +64,8 @@ store-line-requires c κs =
     let l = c .before .before .before in
     let s = l .before in
     let a = s .args in
-    rw (row-part (a .n) (a .work .now) (l .loop .i), row-length (a .n) (a .work .now) (l .loop .i) 4 (omega arith) (s .pre .0 .1))
-    (λ (k : ℕ) (h : k < a .n). omega (arith, l .loop .inv .1, target (c .before .before) k h), s .pre .1 .1 (l .loop .i) (omega arith))
+    rw (row-part (a .m) (a .work .now) (l .loop .i), row-length (a .m) (a .work .now) (l .loop .i) 4 (omega arith) (s .pre .0 .2))
+    (λ (k : ℕ) (h : k < a .n). omega (arith, l .loop .inv .1, target (c .before .before) k h), (s .pre .1 .1 (l .loop .i) (omega arith), s .pre .0 .1))
 
 add-i : tie.Need-add-i Inv-loop μ-loop
 add-i c = omega arith
@@ -80,12 +80,11 @@ loop-again c =
     let a = s .args in
     let i = l .loop .i in
     let v = c .before .store-line in
-    let row = rowOf (a .n) (a .work .now) i in (
+    let row = rowOf (a .m) (a .work .now) i in (
       omega arith,
       v .kept .0 ∙ l .loop .inv .1,
-      laid-more (a .at) (a .along) (a .across) (a .n) _ i (a .picture .now) (l .loop .picture) _ (rolled (getD (a .t7) i 0) row) (l .loop .inv .2)
-          (rw (row-part (a .n) (a .work .now) i) at (v .ensures)
-          ∙ ap (λ (m : ℕ). put (a .at + i * a .across) (a .along) (rolled (getD (a .t7) i 0) row) m (l .loop .picture)) (row-length (a .n) (a .work .now) i 4 (omega arith) (s .pre .0 .1)))
+      laid-more (a .at) (a .along) (a .across) (a .n) _ i (a .picture .now) (l .loop .picture) _ (rolled (getD (a .t8) i 0) row) (l .loop .inv .2)
+          (rw (row-part (a .m) (a .work .now) i) at (v .ensures))
           (λ (k : ℕ) (h : k < a .n). refl),
     )
 

@@ -16,10 +16,10 @@ use Rattle.pictures.proofs.four.store_places.Statement.{statement}
 use Rattle.pictures.proofs.four.store_places.Tie as tie
 
 abbrev Inv-loop : tie.InvT-loop
-Inv-loop picture₀ at along across work n j₀ k₀ picture j k = (k ≤ n) × (length picture ≡ length picture₀) × ((i : ℕ) → i < 4 → (getD j i 0 ≡ (k + getD j₀ i 0) % n) × (getD j i 0 < n)) × (picture ≡ laid at across along 4 (λ (k i : ℕ). rolled (getD j₀ i 0) (rowOf n work i) k) k picture₀)
+Inv-loop picture₀ at along across work n m j₀ k₀ picture j k = (k ≤ n) × (length picture ≡ length picture₀) × ((i : ℕ) → i < 4 → (getD j i 0 ≡ (k + getD j₀ i 0) % m) × (getD j i 0 < m)) × (picture ≡ laid at across along 4 (λ (k i : ℕ). rolled (getD j₀ i 0) (rowOf m work i) k) k picture₀)
 
 abbrev μ-loop : tie.MeasureT-loop
-μ-loop picture₀ at along across work n j₀ k₀ picture j k = n - k
+μ-loop picture₀ at along across work n m j₀ k₀ picture j k = n - k
 
 loop-holds : tie.Need-loop-holds Inv-loop μ-loop
 loop-holds c = (omega arith, search needs, λ (i : ℕ) (l : i < 4). (sym (rw zero-add (mod-eq-of-lt (c .pre .1 .1 i l))), c .pre .1 .1 i l), laid-none _ _ _ _ _ _)
@@ -39,7 +39,7 @@ copy-four-requires : tie.Need-copy-four-requires Inv-loop μ-loop
 copy-four-requires c κs =
     let l = c .before .before in
     let s = l .before in (
-      λ (i : ℕ) (m : i < 4). omega (arith, row-in (s .args .n) 4 i m, l .loop .inv .2 i m .1, s .pre .0),
+      λ (i : ℕ) (m : i < 4). omega (arith, row-in (s .args .m) 4 i m, l .loop .inv .2 i m .1, s .pre .0 .1),
       omega (arith, target (c .before) 3 (omega arith), l .loop .inv .1),
     )
 
@@ -60,9 +60,9 @@ loop-again c =
     let a = s .args in (
       omega arith,
       v .kept .1 .1 .1 .1 .0 ∙ l .loop .inv .1,
-      λ (i : ℕ) (m : i < 4). (c .after-four .ensures i m .0 ∙ next-place (l .loop .k) (getD (a .turns) i 0) (a .n) (getD (l .loop .j) i 0) (l .loop .inv .2 i m .0), c .after-four .ensures i m .1),
+      λ (i : ℕ) (m : i < 4). (c .after-four .ensures i m .0 ∙ next-place (l .loop .k) (getD (a .starts) i 0) (a .m) (getD (l .loop .j) i 0) (l .loop .inv .2 i m .0), c .after-four .ensures i m .1),
       laid-more (a .at) (a .across) (a .along) 4 _ (l .loop .k) (a .picture .now) (l .loop .picture) _ _ (l .loop .inv .3) (v .ensures)
-          (λ (i : ℕ) (m : i < 4). ap (λ (p : ℕ). getD (a .work .now) p (pos 0)) (omega (arith, l .loop .inv .2 i m .0)) ∙ rolled-at (a .n) (a .work .now) (s .pre .0) i (getD (a .turns) i 0) (l .loop .k) m (omega arith)),
+          (λ (i : ℕ) (m : i < 4). ap (λ (p : ℕ). getD (a .work .now) p (pos 0)) (omega (arith, l .loop .inv .2 i m .0)) ∙ rolled-at (a .m) (a .work .now) (s .pre .0 .1) i (getD (a .starts) i 0) (l .loop .k) m (omega (arith, s .pre .0 .0))),
     )
 
 same-length : tie.Need-same-length Inv-loop μ-loop
@@ -74,7 +74,7 @@ returns c =
     let a = s .args in
     let e : c .before .loop .k ≡ a .n = omega arith in
     c .before .loop .inv .3
-    ∙ ap (λ (k : ℕ). laid (a .at) (a .across) (a .along) 4 (λ (k i : ℕ). rolled (getD (a .turns) i 0) (rowOf (a .n) (a .work .now) i) k) k (a .picture .now)) e
+    ∙ ap (λ (k : ℕ). laid (a .at) (a .across) (a .along) 4 (λ (k i : ℕ). rolled (getD (a .starts) i 0) (rowOf (a .m) (a .work .now) i) k) k (a .picture .now)) e
     ∙ sym (laid-turned (a .at) (a .along) (a .across) _ _ (a .picture .now) (a .n) 4 (s .pre .1 .0))
 
 pub store-places-spec : {M : Type 1} → statement M

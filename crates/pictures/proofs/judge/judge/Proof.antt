@@ -1,4 +1,4 @@
--- `judge` answers at the first test that holds, and past five that fail as the scan does. Assumes nothing.
+-- `judge` answers at the first test that holds, and past six that fail as the scan does. Assumes nothing.
 use mathlib.Core.Path.{_≡_, refl, sym, _∙_}
 use mathlib.Core.Bool.{false}
 use native.Mathlib.Nat.{mul-comm}
@@ -10,6 +10,7 @@ use lib.Signed.{leZ-yes}
 use Rattle.refusals.specs.Tests.{badSize, badKernel, firstBad}
 use Rattle.refusals.specs.Judging.{ofFound}
 use Rattle.refusals.proofs.Tests.{size-good}
+use Rattle.lines.specs.Border.{badBackground}
 use Rattle.pictures.specs.Judge.{range, tooShort, badCentre, badShears, judged}
 use Rattle.pictures.proofs.Accepted.{long-enough}
 use Rattle.pictures.proofs.judge.judge.Statement.{statement}
@@ -31,6 +32,9 @@ start4 c = c .before .before .before .before .before .before .before .before
 abbrev start5 : tie.Else5 → tie.Start
 start5 c = c .before .before .before .before .before .before .before .before .before .before
 
+abbrev start6 : tie.Else6 → tie.Start
+start6 c = c .before .before .before .before .before .before .before .before .before .before .before .before
+
 -- what it says
 no1 : (c : tie.Else1) → badSize (start1 c .args .width) (start1 c .args .height) ≡ false
 no1 c = sym (c .before .bad-size .ensures) ∙ c .if1 .left
@@ -49,12 +53,24 @@ no5 : (c : tie.Else5) → badKernel (start5 c .args .setting .kernel) ≡ false
 unfolding badKernel
 no5 c = le-ltb 2 (start5 c .args .setting .kernel) (c .if5 .left)
 
--- past the five tests the answer is the scan's
-past : (c : tie.Else5)
-    → judged (start5 c .args .width) (start5 c .args .height) (start5 c .args .setting) (start5 c .args .picture .now) (start5 c .args .result) (start5 c .args .work)
-    ≡ ofFound (firstBad range (start5 c .args .width) (start5 c .args .height) (start5 c .args .picture .now))
+no6 : (c : tie.Else6) → badBackground (start6 c .args .setting .border) ≡ false
+no6 c = sym (c .before .bad-background .ensures) ∙ c .if6 .left
+
+-- past the six tests the answer is the scan's
+past : (c : tie.Else6)
+    → judged (start6 c .args .width) (start6 c .args .height) (start6 c .args .setting) (start6 c .args .picture .now) (start6 c .args .result) (start6 c .args .work)
+    ≡ ofFound (firstBad range (start6 c .args .width) (start6 c .args .height) (start6 c .args .picture .now))
 unfolding judged
-past c = rw (no1 (c .before .before .before .before .before .before .before .before), no2 (c .before .before .before .before .before .before), no3 (c .before .before .before .before), no4 (c .before .before), no5 c) refl
+past c =
+    rw (
+      no1 (c .before .before .before .before .before .before .before .before .before .before),
+      no2 (c .before .before .before .before .before .before .before .before),
+      no3 (c .before .before .before .before .before .before),
+      no4 (c .before .before .before .before),
+      no5 (c .before .before),
+      no6 c,
+    )
+    refl
 
 bad-size-requires : tie.Need-bad-size-requires
 bad-size-requires c κs = search needs
@@ -90,15 +106,31 @@ returns-5 : tie.Need-returns-5
 unfolding judged badKernel
 returns-5 c = rw (no1 (c .before .before .before .before .before .before .before .before), no2 (c .before .before .before .before .before .before), no3 (c .before .before .before .before), no4 (c .before .before), lt-ltb _ _ (c .if5 .taken)) refl
 
-scanned-requires : tie.Need-scanned-requires
-scanned-requires c κs =
-    let a = start5 c .args in
-    let z = size-good (no1 (c .before .before .before .before .before .before .before .before)) in
-    let l = long-enough (a .width) (a .height) (length (a .picture .now)) (a .result) (a .work) (no2 (c .before .before .before .before .before .before)) in
-    (z .0 .1, z .1 .1, omega (arith, l .0, mul-comm (a .width) (a .height)), record { from = leZ-yes tt; to = leZ-yes tt })
+bad-background-requires : tie.Need-bad-background-requires
+bad-background-requires c κs = search needs
 
 returns-6 : tie.Need-returns-6
-returns-6 c = c .scanned .ensures ∙ sym (past (c .before))
+unfolding judged
+returns-6 c =
+    rw (
+      no1 (c .before .before .before .before .before .before .before .before .before .before),
+      no2 (c .before .before .before .before .before .before .before .before),
+      no3 (c .before .before .before .before .before .before),
+      no4 (c .before .before .before .before),
+      no5 (c .before .before),
+      sym (c .before .bad-background .ensures) ∙ c .if6 .taken,
+    )
+    refl
+
+scanned-requires : tie.Need-scanned-requires
+scanned-requires c κs =
+    let a = start6 c .args in
+    let z = size-good (no1 (c .before .before .before .before .before .before .before .before .before .before)) in
+    let l = long-enough (a .width) (a .height) (length (a .picture .now)) (a .result) (a .work) (no2 (c .before .before .before .before .before .before .before .before)) in
+    (z .0 .1, z .1 .1, omega (arith, l .0, mul-comm (a .width) (a .height)), record { from = leZ-yes tt; to = leZ-yes tt })
+
+returns-7 : tie.Need-returns-7
+returns-7 c = c .scanned .ensures ∙ sym (past (c .before))
 
 pub judge-spec : {M : Type 1} → statement M
 judge-spec =
@@ -113,5 +145,7 @@ judge-spec =
     bad-shears-requires
     returns-4
     returns-5
+    bad-background-requires
+    returns-6
     scanned-requires
-    returns-6)
+    returns-7)

@@ -13,10 +13,10 @@ use Rattle.pictures.proofs.pass.count_lines.Statement.{statement}
 use Rattle.pictures.proofs.pass.count_lines.Tie as tie
 
 abbrev Inv-loop : tie.InvT-loop
-Inv-loop a c lines count₀ y₀ count y = (y ≤ lines) × (count ≤ y) × (count ≡ interpolated (shear (toZ w32 a) c) y)
+Inv-loop border n a c lines count₀ y₀ count y = (y ≤ lines) × (count ≤ y) × (count ≡ interpolated border n (shear (toZ w32 a) c) y)
 
 abbrev μ-loop : tie.MeasureT-loop
-μ-loop a c lines count₀ y₀ count y = lines - y
+μ-loop border n a c lines count₀ y₀ count y = lines - y
 
 loop-holds : tie.Need-loop-holds Inv-loop μ-loop
 loop-holds c = (omega arith, omega arith, unfold interpolated in refl)

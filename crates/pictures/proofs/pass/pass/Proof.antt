@@ -5,10 +5,14 @@ use Rattle.pictures.proofs.pass.pass.Statement.{statement}
 use Rattle.pictures.proofs.pass.pass.Tie as tie
 
 move-lines-requires : tie.Need-move-lines-requires
-move-lines-requires c κs = search needs
+move-lines-requires c κs =
+    let s = c .before .before in
+    rw (toZ-ofZ (s .fits .a)) (s .pre .0, s .pre .1)
 
 count-lines-requires : tie.Need-count-lines-requires
-count-lines-requires c κs = search needs
+count-lines-requires c κs =
+    let s = c .before .before .before .before .before in
+    rw (toZ-ofZ (s .fits .a)) (s .pre .0 .short, s .pre .0 .slight, s .pre .0 .central, s .pre .0 .few)
 
 same-length : tie.Need-same-length
 same-length c = search needs

@@ -9,7 +9,9 @@ use Rattle.pictures.proofs.pass.prepare_four.Statement.{statement}
 use Rattle.pictures.proofs.pass.prepare_four.Tie as tie
 
 coefficients-four-requires : tie.Need-coefficients-four-requires
-coefficients-four-requires c κs = search needs
+coefficients-four-requires c κs =
+    let s = c .before .before in
+    ((s .pre .0 .0, s .pre .0 .1, s .pre .0 .2), s .pre .1 (c .before .if1 .taken))
 
 same-length : tie.Need-same-length
 same-length c = search needs

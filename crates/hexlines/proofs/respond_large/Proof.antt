@@ -1,0 +1,48 @@
+-- `hexlines::respond_large` lends any line the places that it needs.
+use borrow.Author.Needs.{needs}
+use Rattle.hexlines.proofs.Judged.{roomy-in}
+use Rattle.hexlines.proofs.respond_large.Statement.{statement}
+use Rattle.hexlines.proofs.respond_large.Tie as tie
+
+places-requires : tie.Need-places-requires
+places-requires c κs = search needs
+
+places-requires-2 : tie.Need-places-requires-2
+places-requires-2 c κs = search needs
+
+work-places-requires : tie.Need-work-places-requires
+work-places-requires c κs = search needs
+
+slice-aggregate-respond : tie.Need-slice-aggregate-respond
+slice-aggregate-respond c = search needs
+
+slice-aggregate-respond-2 : tie.Need-slice-aggregate-respond-2
+slice-aggregate-respond-2 c = search needs
+
+slice-aggregate-respond-3 : tie.Need-slice-aggregate-respond-3
+slice-aggregate-respond-3 c = search needs
+
+respond-requires : tie.Need-respond-requires
+respond-requires c κs =
+    let s = c .before .before .before .before .before .before .before .before .before in
+    (s .pre, roomy-in _ (s .pre) _ _ _ (search needs) (search needs) (search needs))
+
+same-length : tie.Need-same-length
+same-length c = search needs
+
+returns : tie.Need-returns
+returns c = search needs
+
+pub respond-large-spec : {M : Type 1} → statement M
+respond-large-spec =
+    tie.close
+    (tie.spec
+    places-requires
+    places-requires-2
+    work-places-requires
+    slice-aggregate-respond
+    slice-aggregate-respond-2
+    slice-aggregate-respond-3
+    respond-requires
+    same-length
+    returns)
