@@ -1,10 +1,17 @@
-// Whole numbers: remainders, the parts of a move as document 01 takes them, neighbours in a cyclic line, the lower and the higher of two.
+// Whole numbers: a wider type, remainders, the parts of a move as document 01 takes them, neighbours in a cyclic line, the lower and the higher of two.
 ghost use mathlib.Core.Path.{_≡_};
 ghost use Prim.Native.Nat.{_+_, _-_, _%_, _<_, _≤_, min, max};
 ghost use lib.IntN.{pos, natAbs};
 ghost use lib.Signed.{_≤ℤ_};
 ghost use Rattle.arith.specs.Whole.{remainder};
 ghost use Rattle.arith.specs.Move.{fraction, whole};
+
+// A number of 32 bits as one of 64.
+pub fn wide(x: i32) -> i64
+    ensures { λ r. ⌜ r ≡ x ⌝ }
+{
+    x as i64
+}
 
 // z modulo m, from 0 to m - 1 whatever the sign of z.
 pub fn floor_remainder(z: i64, m: i64) -> i64

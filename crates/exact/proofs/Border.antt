@@ -17,9 +17,9 @@ use Rattle.lists.specs.Line.{Line, wrap}
 use Rattle.settings.specs.declared.Border.{Border}
 use Rattle.settings.specs.declared.Border.the-variants.{Wrapped, Background}
 use Rattle.kernels.specs.Kernel.{Kernel}
-use Rattle.lines.specs.Move.{first, moved}
-use Rattle.lines.specs.Border.{framed, far, bordered, grey}
-use Rattle.lines.proofs.Border.{framed-both, framed-every}
+use Rattle.moves.specs.Move.{first, moved}
+use Rattle.moves.specs.Border.{framed, far, bordered, grey}
+use Rattle.moves.proofs.Border.{framed-both, framed-every}
 use Rattle.exact.specs.ExactLine.{ExactLine, Kept, OnBackground, ExactMove}
 use Rattle.exact.proofs.ExactLine.{exact-moved, exact-over, exact-line, exact-over-positive, exact-line-only, Same}
 use Rattle.exact.proofs.Step.{Near, base, growth, line-near}

@@ -9,7 +9,7 @@ use Rattle.lists.specs.Line.{line}
 use Rattle.settings.specs.declared.Border.{Border}
 use Rattle.settings.specs.declared.Border.the-variants.{Wrapped, Background}
 use Rattle.kernels.specs.Kernel.{Kernel}
-use Rattle.lines.specs.Border.{grey}
+use Rattle.moves.specs.Border.{grey}
 use Rattle.passes.specs.Picture.{picture, pictured, straighten}
 use Rattle.exact.specs.Limits.{OneGrey, Demand3}
 use Rattle.exact.proofs.Border.{Agrees}

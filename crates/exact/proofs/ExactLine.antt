@@ -11,9 +11,9 @@ use Rattle.arith.proofs.Laws.{cancel, *ℤ-positive}
 use Rattle.lists.specs.Line.{Line, wrap}
 use Rattle.lists.proofs.Cyclic.{wrap-periodic}
 use Rattle.kernels.specs.Kernel.{Kernel, Linear, Keys, Spline, norm, D³}
-use Rattle.lines.specs.Move.{mixed}
+use Rattle.moves.specs.Move.{mixed}
 use Rattle.kernels.proofs.Weights.{norm-positive}
-use Rattle.lines.proofs.Mixed.{mixed-times}
+use Rattle.moves.proofs.Mixed.{mixed-times}
 use Rattle.spline.specs.Exact.{Solution}
 use Rattle.spline.proofs.Exact.{coefficients-only}
 use Rattle.exact.specs.ExactLine.{Weighed, ExactLine}

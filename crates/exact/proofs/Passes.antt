@@ -12,9 +12,9 @@ use Rattle.arith.proofs.Within.{Within, widen}
 use Rattle.settings.specs.declared.Border.{Border}
 use Rattle.kernels.specs.Kernel.{Kernel, Linear, Keys, Spline}
 use Rattle.arith.specs.Move.{fraction}
-use Rattle.lines.specs.Border.{grey}
-use Rattle.lines.proofs.Reach.{reach}
-use Rattle.lines.proofs.Border.{bordered-reach, reach-more}
+use Rattle.moves.specs.Border.{grey}
+use Rattle.moves.proofs.Reach.{reach}
+use Rattle.moves.proofs.Border.{bordered-reach, reach-more}
 use Rattle.exact.specs.ExactLine.{ExactMove}
 use Rattle.exact.proofs.Step.{itself, base, growth}
 use Rattle.exact.proofs.Border.{over-in, numbers-in, exact-move, over-in-positive, exact-move-only, move-near, whole-move, Agrees, grey-move, bordered-grey, shift-move}

@@ -21,8 +21,8 @@ use Rattle.settings.specs.declared.Border.{Border}
 use Rattle.settings.specs.declared.Border.the-variants.{Wrapped, Background}
 use Rattle.kernels.specs.Kernel.{Kernel, Keys, Spline, norm, D³, weigh}
 use Rattle.spline.specs.Coefficients.{filter, run, u, down, back, v, scaled, coefficient}
-use Rattle.lines.specs.Move.{first, mixed, source, moved}
-use Rattle.lines.specs.Border.{framed, far, bordered, grey}
+use Rattle.moves.specs.Move.{first, mixed, source, moved}
+use Rattle.moves.specs.Border.{framed, far, bordered, grey}
 use Rattle.passes.specs.Picture.{Picture, picture, pictured, turned, shear, rows-moved, straighten}
 use Rattle.passes.proofs.Stages.{rows-pass, columns-pass}
 use Rattle.passes.proofs.Examples.{keys-three-by-two, keys-four-by-two, spline-two-by-two}

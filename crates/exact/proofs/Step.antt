@@ -21,12 +21,12 @@ use Rattle.spline.specs.Coefficients.{coefficient}
 use Rattle.kernels.specs.Kernel.{Kernel, Linear, Keys, Spline, D³, norm, weight, weigh}
 use Rattle.arith.specs.Move.{D, fraction}
 use Rattle.kernels.proofs.Weights.{gain, most, norm-nonzero, norm-positive, weigh-within}
-use Rattle.lines.specs.Move.{first, mixed, source, moved}
+use Rattle.moves.specs.Move.{first, mixed, source, moved}
 use Rattle.spline.specs.Exact.{Solution}
 use Rattle.spline.proofs.Exact.{coefficients-near}
 use Rattle.spline.proofs.Existence.{exact, denominator, exact-solution}
 use Rattle.spline.proofs.Near.{coefficient-near}
-use Rattle.lines.proofs.Mixed.{mixed-times}
+use Rattle.moves.proofs.Mixed.{mixed-times}
 use Rattle.exact.specs.ExactLine.{ExactLine}
 use Rattle.arith.proofs.Move.{fraction-low, fraction-high}
 

@@ -13,7 +13,7 @@ use Rattle.arith.proofs.Within.{Within, within-size, size-within}
 use Rattle.settings.specs.declared.Border.{Border}
 use Rattle.settings.specs.declared.Border.the-variants.{Wrapped, Background}
 use Rattle.kernels.specs.Kernel.{Kernel, Linear, Keys, Spline, norm, D³}
-use Rattle.lines.specs.Border.{grey, far}
+use Rattle.moves.specs.Border.{grey, far}
 use Rattle.arith.specs.Move.{fraction}
 use Rattle.exact.specs.ExactLine.{ExactLine, OnBackground, ExactMove}
 use Rattle.exact.proofs.Border.{Agrees}

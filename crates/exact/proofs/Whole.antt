@@ -12,9 +12,9 @@ use Rattle.lists.proofs.Cyclic.{wrap-every}
 use Rattle.arith.proofs.Within.{Within}
 use Rattle.kernels.specs.Kernel.{Kernel, Linear, Keys, Spline, norm, D³, weigh}
 use Rattle.arith.specs.Move.{fraction}
-use Rattle.lines.specs.Move.{first, mixed, moved}
-use Rattle.lines.proofs.Mixed.{mixed-grey}
-use Rattle.lines.proofs.Whole.{at-zero, weigh-at-zero}
+use Rattle.moves.specs.Move.{first, mixed, moved}
+use Rattle.moves.proofs.Mixed.{mixed-grey}
+use Rattle.moves.proofs.Whole.{at-zero, weigh-at-zero}
 use Rattle.spline.proofs.Exact.{shifted}
 use Rattle.exact.specs.ExactLine.{ExactLine, Weighed}
 use Rattle.exact.proofs.ExactLine.{weighed-line, weighed-over, is-weighed, Same, exact-line-only}

@@ -8,8 +8,8 @@ use Rattle.settings.specs.declared.Border.{Border}
 use Rattle.settings.specs.declared.Border.the-variants.{Wrapped, Background}
 use Rattle.kernels.specs.Kernel.{Kernel, Linear, Keys, Spline, norm, D³}
 use Rattle.spline.specs.Exact.{Solution}
-use Rattle.lines.specs.Move.{mixed}
-use Rattle.lines.specs.Border.{framed, far}
+use Rattle.moves.specs.Move.{mixed}
+use Rattle.moves.specs.Border.{framed, far}
 
 -- what is weighed, Y over R, of the line S over q: kernels 0 and 1 weigh its fractions, kernel 2 its exact coefficients
 abbrev pub Weighed : Kernel → ℕ → Line → ℤ → Line → ℤ → Type 0

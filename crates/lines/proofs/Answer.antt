@@ -1,7 +1,7 @@
 -- The call that moves one line: what an accepted call has passed, what its buffers hold at each step, and the answer in either case.
 -- Assumes nothing.
-use mathlib.Core.Path.{_≡_, refl, sym, ap, _∙_}
-use mathlib.Core.Bool.{Bool, false, cond}
+use mathlib.Core.Path.{_≡_, sym, ap, _∙_}
+use mathlib.Core.Bool.{Bool, cond}
 use mathlib.Core.List.{List, _++_}
 use Prim.Native.Nat.{ℕ, _+_, _*_, _-_, _≤_, _<_}
 use native.Mathlib.Omega.{arith}
@@ -19,31 +19,19 @@ use Rattle.refusals.specs.declared.Verdict.the-variants as verdict
 use Rattle.refusals.specs.Tests.{badSide, short, badKernel, beyondOf, firstBad}
 use Rattle.refusals.specs.Judging.{whenAccepted}
 use Rattle.refusals.specs.Judging as judging
-use Rattle.refusals.proofs.Tests.{or-false, side-good, short-good, kernel-good, beyond-good, good-beyond}
+use Rattle.refusals.proofs.Tests.{or-false, side-good, short-good, kernel-good, beyond-good}
 use Rattle.refusals.proofs.First.{nothing-bad}
 use Rattle.refusals.proofs.Judging.{refusedIf-accepted, ofFound-accepted}
 use Rattle.settings.specs.declared.Border.{Border}
-use Rattle.settings.specs.declared.Border.the-variants.{Wrapped, Background}
 use Rattle.kernels.specs.Kernel.{Kernel, kernelOf}
+use Rattle.moves.specs.declared.Part.{Part}
+use Rattle.moves.specs.Border.{bordered, moveIn, badBackground, grey}
+use Rattle.moves.specs.InPlace.{prepared}
+use Rattle.moves.specs.Row.{places, setIn, startAt, held, Covers, loadedOf, weighedPart, Alike}
+use Rattle.moves.proofs.Border.{held-fraction, background-good}
+use Rattle.moves.proofs.Kept.{kept-in-place}
 use Rattle.lines.specs.declared.LineOutcome.the-variants.{Moved, Refused}
-use Rattle.lines.specs.declared.Part.{Part}
-use Rattle.lines.specs.Border.{bordered, moveIn, badBackground, grey}
-use Rattle.lines.specs.InPlace.{prepared}
-use Rattle.lines.specs.Row.{places, setIn, startAt, held, Covers, loadedOf, weighedPart, Alike}
-use Rattle.lines.proofs.Border.{held-fraction}
-use Rattle.lines.proofs.Kept.{kept-in-place}
 use Rattle.lines.specs.Answer.{farthest, range, tooShort, judged, Movable, isInterpolated, outcomeBy, outcomeOf, LineMoved}
-
--- a background that passed its test
-pub background-good : (β : Border) → badBackground β ≡ false → natAbs (grey β) ≤ 32767
-unfolding badBackground
-background-good Wrapped e = omega arith
-background-good (Background b) e = beyond-good b e
-
-pub good-background : (β : Border) → natAbs (grey β) ≤ 32767 → badBackground β ≡ false
-unfolding badBackground
-good-background Wrapped h = refl
-good-background (Background b) h = good-beyond b h
 
 -- what an accepted call has passed
 module _ (n kernel : ℕ) (d : ℤ) (β : Border) (line : List ℤ) (result work : ℕ) where

@@ -12,8 +12,8 @@ use Rattle.refusals.specs.declared.Verdict.the-variants.{Accepted, Refused}
 use Rattle.refusals.specs.Tests.{badSide, short, badKernel, beyondOf, firstFrom, firstBad}
 use Rattle.settings.specs.declared.Border.{Border}
 use Rattle.settings.specs.declared.Border.the-variants.{Wrapped, Background}
+use Rattle.moves.specs.Border.{far, gone, fractionIn, badBackground}
 use Rattle.lines.specs.declared.LineOutcome.{LineOutcome}
-use Rattle.lines.specs.Border.{far, gone, fractionIn, badBackground}
 use Rattle.lines.specs.Answer.{tooShort, judged, isInterpolated, outcomeOf, numberOf, rowOf, columnOf, countOf}
 
 -- a call: n, the kernel, d, the border, the line, and the places of the result and the work

@@ -13,9 +13,9 @@ use Rattle.refusals.specs.Judging.{refusedIf, ofFound, whenAccepted}
 use Rattle.refusals.specs.Judging as judging
 use Rattle.settings.specs.declared.Border.{Border}
 use Rattle.kernels.specs.Kernel.{kernelOf}
+use Rattle.moves.specs.Border.{moveIn, fractionIn, badBackground, grey}
 use Rattle.lines.specs.declared.LineOutcome.{LineOutcome}
 use Rattle.lines.specs.declared.LineOutcome.the-variants.{Moved, Refused}
-use Rattle.lines.specs.Border.{moveIn, fractionIn, badBackground, grey}
 
 -- the farthest move, in 4,096ths of a sample, and the range of samples
 abbrev pub farthest : ℕ

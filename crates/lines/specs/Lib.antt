@@ -1,11 +1,3 @@
--- One line moved, document 01's 'One line moved'.
---     Move      the move, in the document's words
---     Border    the same under a border
---     InPlace   the move by steps, as the code takes them
---     Row       the row that a line is moved in under a border
---     Answer    what the call that moves one line answers
-pub mod Move
-pub mod Border
-pub mod InPlace
-pub mod Row
+-- The call that moves one line, document 01's 'One line moved' and 'Refusals'.
+--     Answer   what it answers, accepted or refused, and what it leaves in the lent buffers
 pub mod Answer

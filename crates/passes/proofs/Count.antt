@@ -9,7 +9,7 @@ use Rattle.arith.proofs.Bridge.{bridge, all2}
 use Rattle.arith.specs.Whole.{floor, remainder}
 use Rattle.arith.specs.Move.{fraction}
 use Rattle.settings.specs.declared.Border.{Border}
-use Rattle.lines.specs.Border.{gone, fractionIn}
+use Rattle.moves.specs.Border.{gone, fractionIn}
 use Rattle.passes.specs.Count.{interpolated, count}
 use Rattle.passes.specs.Picture.{shear}
 

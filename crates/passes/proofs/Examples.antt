@@ -13,8 +13,8 @@ use Rattle.settings.specs.declared.Border.{Border}
 use Rattle.settings.specs.declared.Border.the-variants.{Wrapped, Background}
 use Rattle.kernels.specs.Kernel.{Keys, Spline, weigh}
 use Rattle.spline.specs.Coefficients.{filter, run, u, down, back, v, scaled, coefficient}
-use Rattle.lines.specs.Move.{first, mixed, source, moved}
-use Rattle.lines.specs.Border.{framed, far, bordered, gone, fractionIn}
+use Rattle.moves.specs.Move.{first, mixed, source, moved}
+use Rattle.moves.specs.Border.{framed, far, bordered, gone, fractionIn}
 use Rattle.passes.specs.Picture.{picture, pictured, shear, rows-moved, straighten}
 use Rattle.passes.specs.Count.{interpolated, count}
 use Rattle.passes.proofs.Stages.{rows-pass, columns-pass, straighten-stages}

@@ -4,7 +4,7 @@ use Prim.Native.Nat.{ℕ, _<_}
 use lib.IntN.{ℤ}
 use Rattle.settings.specs.declared.Border.{Border}
 use Rattle.kernels.specs.Kernel.{Kernel}
-use Rattle.lines.proofs.Border.{bordered-local}
+use Rattle.moves.proofs.Border.{bordered-local}
 use Rattle.passes.specs.Picture.{Picture, rows-moved}
 
 -- two pictures of one size and one setting, alike in row y, agree in row y after pass 1

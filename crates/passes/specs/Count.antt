@@ -2,7 +2,7 @@
 use Prim.Native.Nat.{ℕ, zero, suc, _+_, min}
 use lib.IntN.{ℤ}
 use Rattle.settings.specs.declared.Border.{Border}
-use Rattle.lines.specs.Border.{fractionIn}
+use Rattle.moves.specs.Border.{fractionIn}
 
 -- of n lines of N samples, each 1 where f is not 0
 unfoldable pub interpolated : Border → ℕ → (ℕ → ℤ) → ℕ → ℕ

@@ -8,7 +8,7 @@ use Rattle.lists.specs.Tab.{tab}
 use Rattle.lists.specs.Line.{Line, line}
 use Rattle.settings.specs.declared.Border.{Border}
 use Rattle.kernels.specs.Kernel.{Kernel}
-use Rattle.lines.specs.Border.{bordered}
+use Rattle.moves.specs.Border.{bordered}
 
 abbrev pub Picture : Type 0
 Picture = ℕ → Line

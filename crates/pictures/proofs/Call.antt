@@ -23,11 +23,11 @@ use Rattle.passes.proofs.Stages.{rows-pass, columns-pass, rows-pass-length, str
 use Rattle.exact.specs.Limits.{Demand3}
 use Rattle.exact.proofs.Straighten.{straighten-size}
 use Rattle.exact.proofs.Demand.{straighten-demand3}
+use Rattle.acceptance.specs.Judge.{range, Fit}
+use Rattle.acceptance.proofs.Accepted.{accepted-fit, fit-range, refused-sample, refused-zero}
 use Rattle.pictures.specs.declared.Outcome.{Outcome}
-use Rattle.pictures.specs.Judge.{range, Fit}
 use Rattle.pictures.specs.Answer.{numberOf, rowOf, columnOf, kernelIn, rowMoves, columnMoves, verdictOf, Answer}
 use Rattle.pictures.specs.declared.Outcome.the-variants as variants
-use Rattle.pictures.proofs.Accepted.{accepted-fit, fit-range, refused-sample, refused-zero}
 
 -- ---- the places of the picture after its first W·H are not read
 module _ (β : Border) (κ : Kernel) (W H : ℕ) (rows columns : ℕ → ℤ) (s : List ℤ) (hW : 0 < W) (hH : 0 < H) where

@@ -14,13 +14,13 @@ use Rattle.lists.specs.Grid.{lineOf, Lines}
 use Rattle.lists.proofs.Grid.{lineOf-at, lineOf-length, behind, passed-length, row-lines, column-lines}
 use Rattle.settings.specs.declared.Border.{Border}
 use Rattle.kernels.specs.Kernel.{Kernel}
-use Rattle.lines.specs.Border.{bordered, grey}
-use Rattle.lines.proofs.Border.{bordered-local, moveIn-at}
+use Rattle.moves.specs.Border.{bordered, grey}
+use Rattle.moves.proofs.Border.{bordered-local, moveIn-at}
 use Rattle.passes.specs.Picture.{Picture, picture, pictured, turned, Places, rows-moved, after-one, after-two}
 use Rattle.passes.proofs.Places.{inside, length-pictured, pictured-at, picture-at, at-index}
 use Rattle.passes.proofs.Stages.{rows-pass, columns-pass, one, two}
 use Rattle.exact.proofs.Passes.{after-one-range, after-two-range}
-use Rattle.pictures.specs.Pass.{movedAt, linesMoved}
+use Rattle.shears.specs.Pass.{movedAt, linesMoved}
 
 -- ---- every line of one direction is its moved line
 module _ (β : Border) (κ : Kernel) (moves : ℕ → ℤ) {n lines along across : ℕ} (pic : List ℤ) (g : Lines n lines along across (length pic)) (some : 0 < n) where

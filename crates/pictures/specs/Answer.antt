@@ -14,9 +14,9 @@ use Rattle.kernels.specs.Kernel.{Kernel, kernelOf}
 use Rattle.passes.specs.Picture.{shear, straighten}
 use Rattle.passes.specs.Count.{count}
 use Rattle.exact.specs.Limits.{Demand3}
+use Rattle.acceptance.specs.Judge.{judged}
 use Rattle.pictures.specs.declared.Outcome.{Outcome}
 use Rattle.pictures.specs.declared.Outcome.the-variants as variants
-use Rattle.pictures.specs.Judge.{judged}
 
 -- document 01's number, row, column and count of each outcome
 abbrev pub numberOf : Outcome → ℕ

@@ -9,14 +9,10 @@ ghost use lib.IntN.{pos};
 ghost use lib.ListN.{length, take, drop, replicate};
 ghost use Rattle.passes.specs.Picture.{straighten};
 ghost use Rattle.passes.specs.Count.{count};
-ghost use Rattle.pictures.specs.Judge.{Fit};
+ghost use Rattle.acceptance.specs.Judge.{Fit};
 ghost use Rattle.pictures.specs.Answer.{kernelIn, rowMoves, columnMoves, Answer};
 use refusals::Verdict;
 use settings::Setting;
-
-mod four;
-mod judge;
-mod pass;
 
 // What a call comes to: straightened, with the number of lines interpolated; or refused under a number, with a row and a column that are 0
 // except under 6.
@@ -44,9 +40,9 @@ fn three_passes(
     let a = setting.a;
     let b = setting.b;
     let edges = setting.border;
-    let first = pass::pass(picture, work, width, height, 1, width, edges, kernel, a, cy);
-    let second = pass::pass(picture, work, height, width, width, 1, edges, kernel, b, cx);
-    let third = pass::pass(picture, work, width, height, 1, width, edges, kernel, a, cy);
+    let first = shears::pass(picture, work, width, height, 1, width, edges, kernel, a, cy);
+    let second = shears::pass(picture, work, height, width, width, 1, edges, kernel, b, cx);
+    let third = shears::pass(picture, work, width, height, 1, width, edges, kernel, a, cy);
     first + second + third
 }
 
@@ -65,7 +61,7 @@ fn straighten_accepted(
     ensures { λ r. ⌜ r ≡ count (setting .border) width height (rowMoves setting) (columnMoves setting) ⌝ }
 {
     let places = width * height;
-    let room = 12 * judge::longer(width, height);
+    let room = 12 * acceptance::longer(width, height);
     lists::copy(picture, result, places);
     let lines = three_passes(
         &mut result[..places],
@@ -92,7 +88,7 @@ pub fn straighten(
 ) -> Outcome
     ensures { λ r. ⌜ Answer width height setting (now (picture .entry)) (now (result .entry)) (now (work .entry)) r (now (result .exit)) (now (work .exit)) ⌝ }
 {
-    let verdict = judge::judge(width, height, setting, picture, result.len(), work.len());
+    let verdict = acceptance::judge(width, height, setting, picture, result.len(), work.len());
     match verdict {
         Verdict::Refused(number, row, column) => Outcome::Refused(number, row, column),
         Verdict::Accepted => Outcome::Straightened(straighten_accepted(

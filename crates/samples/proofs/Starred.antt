@@ -15,8 +15,8 @@ use Rattle.lists.specs.Line.{wrap}
 use Rattle.settings.specs.declared.Border.the-variants.{Wrapped}
 use Rattle.kernels.specs.Kernel.{weigh, Linear}
 use Rattle.spline.specs.Coefficients.{filter, run, u, down, back, v, scaled, coefficient}
-use Rattle.lines.specs.Move.{first, mixed, source, moved, move}
-use Rattle.lines.specs.Border.{framed, far, bordered, moveIn, gone, fractionIn}
+use Rattle.moves.specs.Move.{first, mixed, source, moved, move}
+use Rattle.moves.specs.Border.{framed, far, bordered, moveIn, gone, fractionIn}
 use Rattle.passes.specs.Picture.{picture, pictured, shear, rows-moved, straighten}
 use Rattle.passes.specs.Count.{interpolated, count}
 use Rattle.samples.specs.Starred as S

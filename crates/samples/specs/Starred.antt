@@ -6,8 +6,8 @@ use lib.IntN.{ℤ, pos, negsuc}
 use Rattle.settings.specs.declared.Border.{Border}
 use Rattle.settings.specs.declared.Border.the-variants.{Wrapped}
 use Rattle.kernels.specs.Kernel.{Kernel, Linear, Keys, Spline}
-use Rattle.lines.specs.Move.{move}
-use Rattle.lines.specs.Border.{moveIn}
+use Rattle.moves.specs.Move.{move}
+use Rattle.moves.specs.Border.{moveIn}
 use Rattle.passes.specs.Picture.{shear, straighten}
 use Rattle.passes.specs.Count.{count}
 

@@ -5,8 +5,6 @@
 --     Settle, Near   the rounded coefficients are within 37/11 of 16 times the exact ones
 --     ExactList      the same of lists
 --     Sizes          how large u, v and c come
---     InPlace        u and c in the places of a line's samples: what the code's loops keep
---     Four           the same in four lines at once
 --     Examples       coefficients of short lines, computed
 pub mod Rules
 pub mod Exact
@@ -15,6 +13,4 @@ pub mod Settle
 pub mod Near
 pub mod ExactList
 pub mod Sizes
-pub mod InPlace
-pub mod Four
 pub mod Examples

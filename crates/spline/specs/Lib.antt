@@ -1,7 +1,5 @@
 -- The cubic spline's coefficients, document 01's 'Spline coefficients'.
 --     Coefficients   u, v and c, as the document computes them in whole numbers
---     InPlace        the same run over a list, in its place
 --     Exact          the exact coefficients of a line of fractions
 pub mod Coefficients
-pub mod InPlace
 pub mod Exact

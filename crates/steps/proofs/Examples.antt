@@ -1,13 +1,11 @@
--- Document 01's figures for steps and levelling, computed from the definitions. Assumes nothing.
+-- Document 01's figures for steps, computed from the definitions. Assumes nothing.
 use mathlib.Core.Path.{_≡_, refl}
 use lib.IntN.{pos, negsuc}
 use Rattle.refusals.specs.Tests.{beyondOf}
 use Rattle.settings.specs.declared.Border.the-variants.{Background}
 use Rattle.settings.specs.declared.Setting.{Setting}
 use Rattle.steps.specs.Step.{entry, S, sineOf, changeOf}
-use Rattle.steps.specs.Level.{miss, firstSmallest, stepAt, missAt, levelling, outside, anyOutside, steep, directionOf, levelOf}
 use Rattle.steps.specs.declared.StepSine.the-variants as sine
-use Rattle.steps.specs.declared.Levelled.the-variants as level
 
 -- S(1) = 2, S(1000) = 1,887, S(1697) = 2,897, and S(-1000) = -1,887
 step-1 : S (pos 1) ≡ pos 2
@@ -56,30 +54,3 @@ change-back-1698 :
     changeOf before-change (negsuc 1697) ≡ record { number = 4; setting = record { kernel = 2; cx = 3; cy = 5; a = pos 7; b = pos 11; border = Background (pos 13) } }
 unfolding before-change changeOf beyondOf
 change-back-1698 = refl
-
--- levelling (0,0) to (100,1) → -20; (0,0) to (1000,1000) → -1697
-level-100 : levelOf (pos 0) (pos 0) (pos 100) (pos 1) ≡ level.Step (negsuc 19)
-unfolding miss firstSmallest stepAt missAt levelling outside anyOutside steep directionOf levelOf
-level-100 = refl
-
-level-1000 : levelOf (pos 0) (pos 0) (pos 1000) (pos 1000) ≡ level.Step (negsuc 1696)
-unfolding miss firstSmallest stepAt missAt levelling outside anyOutside steep directionOf levelOf
-level-1000 = refl
-
--- of equal misses, the first
-first-of-equal : firstSmallest (λ u. 7) 3 ≡ 0
-unfolding firstSmallest
-first-of-equal = refl
-
--- a coordinate outside is 7 before dx is looked at; dx = 0 and |dy| above dx are 8
-level-outside : levelOf (pos 5) (pos 0) (pos 5) (pos 1024) ≡ level.Refused 7
-unfolding outside anyOutside levelOf
-level-outside = refl
-
-level-upright : levelOf (pos 5) (pos 0) (pos 5) (pos 0) ≡ level.Refused 8
-unfolding outside anyOutside steep directionOf levelOf
-level-upright = refl
-
-level-steep : levelOf (pos 0) (pos 101) (pos 100) (pos 0) ≡ level.Refused 8
-unfolding outside anyOutside steep directionOf levelOf
-level-steep = refl

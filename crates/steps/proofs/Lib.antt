@@ -1,9 +1,5 @@
--- Laws of steps and of levelling.
---     Steps       S is odd, and the whole number nearest at every step
---     Levelling   the step with the smallest miss: the only one, and beside the change of sign
---     Judging     what the tests of levelling tell, and the answers that follow
---     Examples    document 01's figures, computed
+-- Laws of steps.
+--     Steps      S is odd, and the whole number nearest at every step
+--     Examples   document 01's figures, computed
 pub mod Steps
-pub mod Levelling
-pub mod Judging
 pub mod Examples

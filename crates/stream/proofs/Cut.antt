@@ -8,8 +8,8 @@ use borrow.Author.Tests.{leb-true, leb-false}
 use lib.Dec.{leb}
 use lib.ListN.{length, take, drop, length-take}
 use lib.Seq.{take-all, take-take, length-take-le, take-append-le, take-append-add, take-append-seam, take-at, paste, length-paste-head}
-use Rattle.hexlines.proofs.Judged.{long-ill, answer-ill}
-use Rattle.hexlines.specs.Answer.{answerOf}
+use Rattle.format.proofs.Judged.{long-ill, answer-ill}
+use Rattle.format.specs.Answer.{answerOf}
 use Rattle.stream.specs.Steps.{cut, Held, Stands}
 
 by-length : {P : Type 0} (n m : ℕ) → (n ≤ m → P) → (m < n → P) → P

@@ -8,10 +8,11 @@ use borrow.Author.Tests.{le-leb}
 use borrow.Rule.Slice.PartMut.{putMid}
 use lib.ListN.{length, take, drop, length-append, length-take, length-drop, drop-of-length-le, take-append-drop}
 use lib.Seq.{take-all, take-take, take-at, drop-at, drop-drop, take-add, length-take-le}
-use Rattle.hexlines.proofs.Judged.{answer-short}
-use Rattle.hexlines.specs.Answer.{answerOf}
-use Rattle.hexlines.specs.Room.{Fitted, fitted, fittedLength}
-use Rattle.stream.specs.Output.{lineLength, answers, rest, lastAnswer}
+use Rattle.format.proofs.Judged.{answer-short}
+use Rattle.format.specs.Answer.{answerOf}
+use Rattle.format.specs.Room.{Fitted, fitted, fittedLength}
+use Rattle.feeds.specs.Feed.{lineLength}
+use Rattle.stream.specs.Output.{answers, rest, lastAnswer}
 use Rattle.stream.specs.Steps.{cut, Held, Stands, Finished, Read, Stepped, Last}
 use Rattle.stream.specs.declared.Advance.{Advance}
 use Rattle.stream.proofs.Cut.{answer-cut, held-append, held-nothing, held-itself, stands-take, cut-short}

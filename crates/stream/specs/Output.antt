@@ -1,19 +1,10 @@
 -- What the line program writes for an input: the answers to its lines, each of which ends in a line feed, and to a last one that lacks it.
 -- Assumes nothing.
-use Prim.Native.Nat.{ℕ, suc}
-use mathlib.Core.Bool.{Bool, cond, not}
+use Prim.Native.Nat.{ℕ}
+use mathlib.Core.Bool.{cond}
 use mathlib.Core.List.{List, [], _∷_, _++_}
-use lib.Dec.{eqb}
-use Rattle.hexlines.specs.Answer.{answerOf}
-
--- a byte other than a line feed
-unfoldable pub inLine : ℕ → Bool
-inLine b = not (eqb b 10)
-
--- how many bytes stand before the first line feed
-unfoldable pub lineLength : List ℕ → ℕ
-lineLength [] = 0
-lineLength (b ∷ bs) = cond (inLine b) (suc (lineLength bs)) 0
+use Rattle.feeds.specs.Feed.{inLine}
+use Rattle.format.specs.Answer.{answerOf}
 
 -- the answers to the lines that end in the input, where `held` came before it and has no line feed
 unfoldable pub answers : List ℕ → List ℕ → List ℕ

@@ -3,7 +3,7 @@ use Prim.Native.Nat.{ℕ, _≤_, _<_}
 use mathlib.Core.Path.{_≡_}
 use mathlib.Core.List.{List, _++_}
 use lib.ListN.{length, take, drop}
-use Rattle.hexlines.specs.Answer.{answerOf}
+use Rattle.format.specs.Answer.{answerOf}
 use Rattle.stream.specs.Output.{answers, rest, lastAnswer}
 use Rattle.stream.specs.declared.Advance.{Advance}
 use Rattle.stream.specs.declared.Progress.{Progress}

@@ -1,4 +1,4 @@
--- `exports::straightener_level` keeps what `steps::level` promises. Assumes nothing.
+-- `exports::straightener_level` keeps what `levelling::level` promises. Assumes nothing.
 use borrow.Author.Needs.{needs}
 use mir.Facts.{toZ-ofZ}
 use Rattle.exports.proofs.straightener_level.Statement.{statement}

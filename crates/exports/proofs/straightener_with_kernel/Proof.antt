@@ -3,7 +3,7 @@ use mathlib.Core.Path.{ap, _∙_}
 use borrow.Author.Needs.{needs}
 use Rattle.settings.specs.declared.Setting.{Setting}
 use Rattle.settings.specs.Setting.{withKernel}
-use Rattle.exports.specs.Exported.{laidAs}
+use Rattle.flat.specs.Exported.{laidAs}
 use Rattle.exports.proofs.straightener_with_kernel.Statement.{statement}
 use Rattle.exports.proofs.straightener_with_kernel.Tie as tie
 

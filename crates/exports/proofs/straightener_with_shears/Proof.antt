@@ -4,7 +4,7 @@ use borrow.Author.Needs.{needs}
 use mir.Facts.{toZ-ofZ}
 use Rattle.settings.specs.declared.Setting.{Setting}
 use Rattle.settings.specs.Setting.{withShears}
-use Rattle.exports.specs.Exported.{laidAs}
+use Rattle.flat.specs.Exported.{laidAs}
 use Rattle.exports.proofs.straightener_with_shears.Statement.{statement}
 use Rattle.exports.proofs.straightener_with_shears.Tie as tie
 

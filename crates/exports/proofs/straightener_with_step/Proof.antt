@@ -3,7 +3,7 @@ use mathlib.Core.Path.{ap, ap₂, _∙_}
 use borrow.Author.Needs.{needs}
 use mir.Facts.{toZ-ofZ}
 use Rattle.steps.specs.Step.{changeOf}
-use Rattle.exports.specs.Exported.{ofChange}
+use Rattle.flat.specs.Exported.{ofChange}
 use Rattle.exports.proofs.straightener_with_step.Statement.{statement}
 use Rattle.exports.proofs.straightener_with_step.Tie as tie
 

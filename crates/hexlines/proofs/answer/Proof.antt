@@ -1,6 +1,6 @@
 -- `hexlines::answer` meets its contract.
 use borrow.Author.Needs.{needs}
-use Rattle.hexlines.proofs.Judged.{answered-short, answered-bytes}
+use Rattle.format.proofs.Judged.{answered-short, answered-bytes}
 use Rattle.hexlines.proofs.answer.Statement.{statement}
 use Rattle.hexlines.proofs.answer.Tie as tie
 

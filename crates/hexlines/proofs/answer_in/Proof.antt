@@ -1,7 +1,7 @@
 -- `hexlines::answer_in` meets its contract.
 use mathlib.Core.Path.{refl, sym, _∙_}
 use borrow.Author.Needs.{needs}
-use Rattle.hexlines.proofs.Judged.{roomy-in, answer-ill, ill-line}
+use Rattle.format.proofs.Judged.{roomy-in, answer-ill, ill-line}
 use Rattle.hexlines.proofs.answer_in.Statement.{statement}
 use Rattle.hexlines.proofs.answer_in.Tie as tie
 

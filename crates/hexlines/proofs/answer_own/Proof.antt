@@ -1,7 +1,7 @@
 -- `hexlines::answer_own` answers a well-formed line, and any other with 9.
 use mathlib.Core.Path.{sym, _∙_}
 use borrow.Author.Needs.{needs}
-use Rattle.hexlines.proofs.Judged.{answer-ill}
+use Rattle.format.proofs.Judged.{answer-ill}
 use Rattle.hexlines.proofs.answer_own.Statement.{statement}
 use Rattle.hexlines.proofs.answer_own.Tie as tie
 

@@ -6,10 +6,10 @@ use native.Mathlib.Omega.{arith}
 use borrow.Author.Needs.{needs}
 use lib.ListN.{length, drop}
 use lib.Seq.{length-take-le}
-use Rattle.hexlines.specs.Answer.{numberOf}
-use Rattle.hexlines.specs.Line.{sizeIn}
-use Rattle.hexlines.proofs.Outcome.{number-is, change-setting}
-use Rattle.hexlines.proofs.Judged.{well, accepted-line, refused-line, answer-accepted, answer-refused}
+use Rattle.format.specs.Answer.{numberOf}
+use Rattle.format.specs.Line.{sizeIn}
+use Rattle.format.proofs.Outcome.{number-is, change-setting}
+use Rattle.format.proofs.Judged.{well, accepted-line, refused-line, answer-accepted, answer-refused}
 use Rattle.hexlines.proofs.respond.Statement.{statement}
 use Rattle.hexlines.proofs.respond.Tie as tie
 

@@ -1,6 +1,6 @@
 -- `hexlines::respond_large` lends any line the places that it needs.
 use borrow.Author.Needs.{needs}
-use Rattle.hexlines.proofs.Judged.{roomy-in}
+use Rattle.format.proofs.Judged.{roomy-in}
 use Rattle.hexlines.proofs.respond_large.Statement.{statement}
 use Rattle.hexlines.proofs.respond_large.Tie as tie
 

@@ -1,7 +1,7 @@
 -- `hexlines::respond_own` lends a well-formed line as few places as it needs.
 use native.Mathlib.Omega.{arith}
 use borrow.Author.Needs.{needs}
-use Rattle.hexlines.proofs.Judged.{well}
+use Rattle.format.proofs.Judged.{well}
 use Rattle.hexlines.proofs.respond_own.Statement.{statement}
 use Rattle.hexlines.proofs.respond_own.Tie as tie
 

@@ -1,6 +1,6 @@
 -- `hexlines::respond_small` lends a short line as few places as it needs.
 use borrow.Author.Needs.{needs}
-use Rattle.hexlines.proofs.Judged.{roomy-small}
+use Rattle.format.proofs.Judged.{roomy-small}
 use Rattle.hexlines.proofs.respond_small.Statement.{statement}
 use Rattle.hexlines.proofs.respond_small.Tie as tie
 

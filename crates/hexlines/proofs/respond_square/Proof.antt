@@ -1,6 +1,6 @@
 -- `hexlines::respond_square` lends a line of short sides the work that it needs.
 use borrow.Author.Needs.{needs}
-use Rattle.hexlines.proofs.Judged.{roomy-square}
+use Rattle.format.proofs.Judged.{roomy-square}
 use Rattle.hexlines.proofs.respond_square.Statement.{statement}
 use Rattle.hexlines.proofs.respond_square.Tie as tie
 

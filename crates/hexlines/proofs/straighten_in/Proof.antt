@@ -5,8 +5,9 @@ use mathlib.Core.Path.{_≡_, refl, _∙_}
 use native.Mathlib.Omega.{arith}
 use borrow.Author.Needs.{needs}
 use Rattle.lists.specs.Tab.{tab}
-use Rattle.hexlines.specs.Line.{sampleAt}
-use Rattle.hexlines.proofs.Judged.{well, small, Called, samples-read, straightened-is, work-cleared, accepted-text, never-refused}
+use Rattle.format.specs.Line.{sampleAt}
+use Rattle.format.proofs.Judged.{well, small}
+use Rattle.hexlines.proofs.Called.{Called, samples-read, straightened-is, work-cleared, accepted-text, never-refused}
 use Rattle.hexlines.proofs.straighten_in.Statement.{statement}
 use Rattle.hexlines.proofs.straighten_in.Tie as tie
 

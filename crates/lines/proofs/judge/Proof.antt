@@ -10,7 +10,7 @@ use lib.ListN.{length}
 use mir.Facts.{toZ-ofZ}
 use Rattle.refusals.specs.Tests.{badSide, short, badKernel, beyondOf}
 use Rattle.refusals.proofs.Tests.{or-false, side-good, short-good}
-use Rattle.lines.specs.Border.{badBackground}
+use Rattle.moves.specs.Border.{badBackground}
 use Rattle.lines.specs.Answer.{farthest, tooShort, judged}
 use Rattle.lines.proofs.judge.Statement.{statement}
 use Rattle.lines.proofs.judge.Tie as tie

@@ -6,7 +6,7 @@ use borrow.Author.Needs.{needs}
 use lib.ListN.{length, take}
 use lib.Seq.{length-take-le}
 use mir.Facts.{toZ-ofZ}
-use Rattle.lines.proofs.Border.{places-few}
+use Rattle.moves.proofs.Border.{places-few}
 use Rattle.lines.proofs.Answer.{past-room, room-lent}
 use Rattle.lines.proofs.move_accepted.Statement.{statement}
 use Rattle.lines.proofs.move_accepted.Tie as tie

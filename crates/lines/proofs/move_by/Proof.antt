@@ -18,12 +18,12 @@ use Rattle.lists.specs.Grid.{lineOf, put}
 use Rattle.lists.proofs.Grid.{lineOf-length, lineOf-at}
 use Rattle.settings.specs.declared.Border.{Border}
 use Rattle.kernels.specs.Kernel.{Kernel, kernelOf}
-use Rattle.lines.specs.declared.Part.{Part}
-use Rattle.lines.specs.Border.{moveIn}
-use Rattle.lines.specs.InPlace.{prepared}
-use Rattle.lines.specs.Row.{places, setIn, startAt, held, Covers, loadedOf, weighedPart, Alike}
-use Rattle.lines.proofs.Border.{places-few, places-some}
-use Rattle.lines.proofs.Kept.{loaded-holds, alike-within}
+use Rattle.moves.specs.declared.Part.{Part}
+use Rattle.moves.specs.Border.{moveIn}
+use Rattle.moves.specs.InPlace.{prepared}
+use Rattle.moves.specs.Row.{places, setIn, startAt, held, Covers, loadedOf, weighedPart, Alike}
+use Rattle.moves.proofs.Border.{places-few, places-some}
+use Rattle.moves.proofs.Kept.{loaded-holds, alike-within}
 use Rattle.lines.proofs.Answer.{front-line, stored-kept, held-interpolated}
 use Rattle.lines.proofs.move_by.Statement.{statement}
 use Rattle.lines.proofs.move_by.Tie as tie

@@ -1,7 +1,7 @@
 -- `straighten` answers as the tests say. Assumes nothing.
 use mathlib.Core.Path.{sym, _∙_}
 use borrow.Author.Needs.{needs}
-use Rattle.pictures.proofs.Accepted.{accepted-fit}
+use Rattle.acceptance.proofs.Accepted.{accepted-fit}
 use Rattle.pictures.proofs.Call.{refused-answer, accepted-answer}
 use Rattle.pictures.proofs.straighten.Statement.{statement}
 use Rattle.pictures.proofs.straighten.Tie as tie

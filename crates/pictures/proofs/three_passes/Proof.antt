@@ -16,12 +16,12 @@ use Rattle.lists.specs.Grid.{Lines}
 use Rattle.lists.proofs.Grid.{row-lines, column-lines}
 use Rattle.settings.specs.declared.Border.{Border}
 use Rattle.kernels.specs.Kernel.{Kernel}
-use Rattle.lines.proofs.Border.{places-few}
+use Rattle.moves.proofs.Border.{places-few}
 use Rattle.passes.specs.Count.{count}
 use Rattle.passes.proofs.Stages.{rows-pass, columns-pass, rows-pass-length, columns-pass-length, straighten-stages}
-use Rattle.pictures.specs.Pass.{Movable}
+use Rattle.shears.specs.Pass.{Movable}
+use Rattle.acceptance.proofs.Accepted.{fit-range}
 use Rattle.pictures.specs.Answer.{kernelIn, rowMoves, columnMoves}
-use Rattle.pictures.proofs.Accepted.{fit-range}
 use Rattle.pictures.proofs.Three.{rows-strided, columns-strided, first-range, second-range, third-range}
 use Rattle.pictures.proofs.three_passes.Statement.{statement}
 use Rattle.pictures.proofs.three_passes.Tie as tie

@@ -3,7 +3,7 @@ use mathlib.Core.Path.{sym}
 use native.Mathlib.Omega.{arith}
 use borrow.Author.Needs.{needs}
 use lib.Seq.{length-take-le}
-use Rattle.stream.proofs.Output.{length-within}
+use Rattle.feeds.proofs.Length.{length-within}
 use Rattle.stream.proofs.Promise.{step-held, step-answered}
 use Rattle.stream.proofs.step.Statement.{statement}
 use Rattle.stream.proofs.step.Tie as tie

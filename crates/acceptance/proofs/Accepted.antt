@@ -1,0 +1,149 @@
+-- A call is accepted just where no number applies. Assumes nothing.
+use Prim.Native.Nat.{ℕ, _*_, _≤_, _<_, max}
+use mathlib.Core.Path.{_≡_, refl, ap}
+use mathlib.Core.Bool.{Bool, true, false}
+use mathlib.Core.List.{List}
+use native.Mathlib.Nat.{mul-comm}
+use native.Mathlib.Omega.{arith}
+use borrow.Author.Tests.{leb-false, lt-leb, le-ltb, ne-eqb}
+use lib.Dec.{leb}
+use lib.IntN.{ℤ, natAbs}
+use lib.ListN.{length}
+use Rattle.lists.specs.Line.{line}
+use Rattle.refusals.specs.declared.Found.{Found}
+use Rattle.refusals.specs.declared.Found.the-variants.{Nothing, At}
+use Rattle.refusals.specs.declared.Verdict.{Verdict}
+use Rattle.refusals.specs.declared.Verdict.the-variants.{Accepted, Refused}
+use Rattle.refusals.specs.Tests.{badSide, badSize, short, badKernel, beyondOf, firstBad}
+use Rattle.refusals.specs.Judging.{refusedIf, ofFound, numberOf, rowOf, columnOf}
+use Rattle.refusals.proofs.Tests.{or-false, size-good, short-good, kernel-good, beyond-good, good-beyond}
+use Rattle.refusals.proofs.Judging.{refusedIf-accepted, ofFound-accepted}
+use Rattle.refusals.proofs.First.{nothing-bad, BadAt, first-bad}
+use Rattle.settings.specs.declared.Setting.{Setting}
+use Rattle.moves.specs.Border.{badBackground}
+use Rattle.moves.proofs.Border.{background-good, good-background}
+use Rattle.acceptance.specs.Judge.{range, tooShort, badCentre, badShears, judged, Fit}
+
+-- ---- what each test that failed tells
+pub long-enough : (W H picture result work : ℕ) → tooShort W H picture result work ≡ false → (W * H ≤ picture) × (W * H ≤ result) × (12 * max W H ≤ work)
+unfolding tooShort
+long-enough W H picture result work e =
+    let a = or-false (short picture (W * H)) _ e in
+    let b = or-false (short result (W * H)) _ (a .1) in
+    (short-good (a .0), short-good (b .0), short-good (b .1))
+
+centre-inside : (W H : ℕ) (s : Setting) → badCentre W H s ≡ false → (s .cx < W) × (s .cy < H)
+unfolding badCentre
+centre-inside W H s e = let a = or-false (leb W (s .cx)) _ e in (leb-false W (s .cx) (a .0), leb-false H (s .cy) (a .1))
+
+shears-within : (s : Setting) → badShears s ≡ false → (natAbs (s .a) ≤ 4096) × (natAbs (s .b) ≤ 4096)
+unfolding badShears
+shears-within s e = let a = or-false (beyondOf 4096 (s .a)) _ e in (beyond-good (s .a) (a .0), beyond-good (s .b) (a .1))
+
+-- the range that the passes and demand 3 are proved for
+pub fit-range : {W H : ℕ} {s : Setting} {picture : List ℤ} {result work : ℕ} → Fit W H s picture result work → (i : ℕ) → i < W * H
+    → natAbs (line picture i) ≤ 32767
+fit-range f i l = omega (arith, f .samples i l)
+
+-- row and column are 0 except under 6
+abbrev ZeroButSix : Verdict → Type 0
+ZeroButSix v = (numberOf v ≡ 6 → ⊥) → (rowOf v ≡ 0) × (columnOf v ≡ 0)
+
+zero-if : (t : Bool) (number : ℕ) (later : Verdict) → ZeroButSix later → ZeroButSix (refusedIf t number later)
+zero-if true number later z other = (refl, refl)
+zero-if false number later z other = z other
+
+zero-found : (f : Found) → ZeroButSix (ofFound f)
+zero-found Nothing other = (refl, refl)
+zero-found (At row column) other = absurd (other refl)
+
+module _ (W H : ℕ) (s : Setting) (picture : List ℤ) (result work : ℕ) where
+  -- a call that passes every test is accepted
+  pub fit-accepted : Fit W H s picture result work → judged W H s picture result work ≡ Accepted
+  unfolding judged
+  fit-accepted f = passed 1 size (passed 2 buffers (passed 3 centre (passed 4 shears (passed 5 kernel (passed 12 background (ap ofFound samples))))))
+    where
+      passed : {t : Bool} (number : ℕ) {later : Verdict} → t ≡ false → later ≡ Accepted → refusedIf t number later ≡ Accepted
+      passed number e l = rw e l
+
+      some : {n : ℕ} → 1 ≤ n → n ≡ 0 → ⊥
+      some h e = omega arith
+
+      size : badSize W H ≡ false
+      size = unfold badSize badSide in
+          rw (ne-eqb W 0 (some (f .width .0)), le-ltb 1024 W (f .width .1), ne-eqb H 0 (some (f .height .0)), le-ltb 1024 H (f .height .1)) refl
+
+      buffers : tooShort W H (length picture) result work ≡ false
+      buffers = unfold tooShort short in
+          rw (le-ltb (length picture) (W * H) (f .picture-places), le-ltb result (W * H) (f .result-places), le-ltb work (12 * max W H) (f .work-places)) refl
+
+      centre : badCentre W H s ≡ false
+      centre = unfold badCentre in rw (lt-leb W (s .cx) (f .centre .0), lt-leb H (s .cy) (f .centre .1)) refl
+
+      shears : badShears s ≡ false
+      shears = unfold badShears in rw (good-beyond (s .a) (f .shears .0), good-beyond (s .b) (f .shears .1)) refl
+
+      kernel : badKernel (s .kernel) ≡ false
+      kernel = unfold badKernel in le-ltb 2 (s .kernel) (f .kernel)
+
+      background : badBackground (s .border) ≡ false
+      background = good-background (s .border) (f .background)
+
+      samples : firstBad range W H picture ≡ Nothing
+      samples = nothing-bad range W H picture .1 (λ i l. f .samples i (omega (arith, mul-comm W H)))
+
+  -- and an accepted one passes every test
+  pub accepted-fit : judged W H s picture result work ≡ Accepted → Fit W H s picture result work
+  unfolding judged
+  accepted-fit e =
+      let one = refusedIf-accepted (badSize W H) 1 _ e in
+      let two = refusedIf-accepted (tooShort W H (length picture) result work) 2 _ (one .1) in
+      let three = refusedIf-accepted (badCentre W H s) 3 _ (two .1) in
+      let four = refusedIf-accepted (badShears s) 4 _ (three .1) in
+      let five = refusedIf-accepted (badKernel (s .kernel)) 5 _ (four .1) in
+      let twelve = refusedIf-accepted (badBackground (s .border)) 12 _ (five .1) in
+      let six = nothing-bad range W H picture .0 (ofFound-accepted (firstBad range W H picture) (twelve .1)) in
+      let size = size-good (one .0) in
+      let long = long-enough W H (length picture) result work (two .0) in
+      record {
+        width = size .0;
+        height = size .1;
+        picture-places = long .0;
+        result-places = long .1;
+        work-places = long .2;
+        centre = centre-inside W H s (three .0);
+        shears = shears-within s (four .0);
+        kernel = kernel-good (five .0);
+        background = background-good (s .border) (twelve .0);
+        samples = λ i l. six i (omega (arith, mul-comm W H));
+      }
+
+  -- number 6 names the first sample beyond the range, in row order, of a call that passes the tests before it
+  pub refused-sample : (y x : ℕ) → judged W H s picture result work ≡ Refused 6 y x → BadAt range W H picture y x
+  unfolding judged
+  refused-sample y x e =
+      let one = past (badSize W H) 1 _ y x (λ q. omega arith) e in
+      let two = past (tooShort W H (length picture) result work) 2 _ y x (λ q. omega arith) one in
+      let three = past (badCentre W H s) 3 _ y x (λ q. omega arith) two in
+      let four = past (badShears s) 4 _ y x (λ q. omega arith) three in
+      let five = past (badKernel (s .kernel)) 5 _ y x (λ q. omega arith) four in
+      let twelve = past (badBackground (s .border)) 12 _ y x (λ q. omega arith) five in
+      first-bad range W H picture y x .0 (found (firstBad range W H picture) y x twelve)
+    where
+      past : (t : Bool) (number : ℕ) (later : Verdict) (y x : ℕ) → (number ≡ 6 → ⊥) → refusedIf t number later ≡ Refused 6 y x → later ≡ Refused 6 y x
+      past true number later y x l e = absurd (l cc)
+      past false number later y x l e = e
+
+      found : (f : Found) (y x : ℕ) → ofFound f ≡ Refused 6 y x → f ≡ At y x
+      found Nothing y x e = let z : _≡_ {A = ℕ} 0 1 = cc in absurd (omega arith)
+      found (At row column) y x e =
+          let p : row ≡ y = cc in
+          let q : column ≡ x = cc in
+          cc
+
+  -- and no other number names a place
+  pub refused-zero : ZeroButSix (judged W H s picture result work)
+  unfolding judged
+  refused-zero =
+      zero-if (badSize W H) 1 _ (zero-if (tooShort W H (length picture) result work) 2 _ (zero-if (badCentre W H s) 3 _ (zero-if (badShears s) 4 _
+      (zero-if (badKernel (s .kernel)) 5 _ (zero-if (badBackground (s .border)) 12 _ (zero-found (firstBad range W H picture)))))))

@@ -1,0 +1,78 @@
+// Whether a call is straightened: the tests of numbers 1 to 5, 12 and 6, in their order. Nothing is written.
+ghost use mathlib.Core.Path.{_≡_};
+ghost use Prim.Native.Nat.{_≤_, max};
+ghost use Rattle.acceptance.specs.Judge.{tooShort, badCentre, badShears, judged};
+use refusals::Verdict;
+use settings::Setting;
+
+// The samples of a picture that is straightened are within plus or minus this, in 128ths of a grey.
+const RANGE: i32 = 32_767;
+
+// The longer side.
+pub fn longer(width: usize, height: usize) -> usize
+    ensures { λ r. ⌜ r ≡ max width height ⌝ }
+{
+    if width < height { height } else { width }
+}
+
+// Number 2: whether a buffer is too short, by their numbers of places.
+fn too_short(width: usize, height: usize, picture: usize, result: usize, work: usize) -> bool
+    requires { ⌜ (width ≤ 1024) × (height ≤ 1024) ⌝ }
+    ensures { λ r. ⌜ r ≡ tooShort width height picture result work ⌝ }
+{
+    let places = width * height;
+    if picture < places {
+        return true;
+    }
+    if result < places {
+        return true;
+    }
+    work < 12 * longer(width, height)
+}
+
+// Number 3: whether the centre is outside the picture.
+fn bad_centre(width: usize, height: usize, setting: Setting) -> bool
+    ensures { λ r. ⌜ r ≡ badCentre width height setting ⌝ }
+{
+    width <= setting.cx || height <= setting.cy
+}
+
+// Number 4: whether a shear is beyond its range.
+fn bad_shears(setting: Setting) -> bool
+    ensures { λ r. ⌜ r ≡ badShears setting ⌝ }
+{
+    refusals::beyond(setting.a, 4096) || refusals::beyond(setting.b, 4096)
+}
+
+// The number that a call is refused under, with 12 judged after 5 and before 6, of a call with a result and work of so many places.
+pub fn judge(
+    width: usize,
+    height: usize,
+    setting: Setting,
+    picture: &[i32],
+    result: usize,
+    work: usize,
+) -> Verdict
+    ensures { λ r. ⌜ r ≡ judged width height setting (now (picture .entry)) result work ⌝ }
+{
+    if refusals::bad_size(width, height) {
+        return Verdict::Refused(1, 0, 0);
+    }
+    if too_short(width, height, picture.len(), result, work) {
+        return Verdict::Refused(2, 0, 0);
+    }
+    if bad_centre(width, height, setting) {
+        return Verdict::Refused(3, 0, 0);
+    }
+    if bad_shears(setting) {
+        return Verdict::Refused(4, 0, 0);
+    }
+    if 2 < setting.kernel {
+        return Verdict::Refused(5, 0, 0);
+    }
+    let border = setting.border;
+    if moves::bad_background(border) {
+        return Verdict::Refused(12, 0, 0);
+    }
+    refusals::scanned(picture, width, height, RANGE)
+}

@@ -1,0 +1,85 @@
+-- What each case of an answer is laid out as: the figures that include/straightener.h names. Assumes nothing.
+use Prim.Native.Nat.{ℕ}
+use mathlib.Core.Path.{_≡_, refl}
+use mathlib.Core.Bool.{true, false}
+use mathlib.Core.List.{[], _∷_, map}
+use lib.IntN.{ℤ, pos}
+use lib.Ieee.{Float}
+use Rattle.refusals.specs.declared.Verdict.the-variants as verdict
+use Rattle.pictures.specs.declared.Outcome.the-variants as picture
+use Rattle.lines.specs.declared.LineOutcome.the-variants as line
+use Rattle.steps.specs.declared.StepSine.the-variants as sine
+use Rattle.levelling.specs.declared.Levelled.the-variants as level
+use Rattle.format.specs.declared.Written.the-variants as written
+use Rattle.readings.specs.declared.Reading.{Reading}
+use Rattle.readings.specs.declared.Reading.the-variants.{Level, Under, Over}
+use Rattle.flat.specs.Exported.{ofVerdict, ofOutcome, ofLine, ofSine, ofLevelled, kindOf, greysOf, ofReading, ofSummary, ofWritten}
+
+-- ---- refused under a number, with a row and a column: these three, and every other figure 0
+module _ (n y x : ℕ) where
+  pub refused-verdict : ofVerdict (verdict.Refused n y x) ≡ record { number = n; row = y; column = x; count = 0 }
+  refused-verdict = refl
+
+  pub refused-picture : ofOutcome (picture.Refused n y x) ≡ record { number = n; row = y; column = x; count = 0 }
+  refused-picture = refl
+
+  pub refused-line : ofLine (line.Refused n y x) ≡ record { number = n; row = y; column = x; count = 0 }
+  refused-line = refl
+
+  pub refused-reading : (greys : Float)
+      → ofReading (record { verdict = verdict.Refused n y x; reading = Level greys })
+      ≡ record { number = n; row = y; column = x; kind = 0; greys = greys }
+  refused-reading greys = refl
+
+  pub refused-summary : (darkest lightest : Float)
+      → ofSummary (record { verdict = verdict.Refused n y x; summary = record { darkest = darkest; lightest = lightest } })
+      ≡ record { number = n; row = y; column = x; darkest = darkest; lightest = lightest }
+  refused-summary darkest lightest = refl
+
+pub refused-sine : (n : ℕ) → ofSine (sine.Refused n) ≡ record { number = n; value = pos 0 }
+refused-sine n = refl
+
+pub refused-level : (n : ℕ) → ofLevelled (level.Refused n) ≡ record { number = n; value = pos 0 }
+refused-level n = refl
+
+pub refused-answer : (n : ℕ) → ofWritten (written.Refused n) ≡ record { number = n; written = 0 }
+refused-answer n = refl
+
+-- ---- accepted: number, row and column 0
+pub accepted-verdict : ofVerdict verdict.Accepted ≡ record { number = 0; row = 0; column = 0; count = 0 }
+accepted-verdict = refl
+
+pub accepted-picture : (lines : ℕ) → ofOutcome (picture.Straightened lines) ≡ record { number = 0; row = 0; column = 0; count = lines }
+accepted-picture lines = refl
+
+-- a line counts 1 where it was interpolated, and 0 where it moved by whole samples
+pub accepted-line :
+    map ofLine (line.Moved true ∷ line.Moved false ∷ [])
+    ≡ record { number = 0; row = 0; column = 0; count = 1 } ∷ record { number = 0; row = 0; column = 0; count = 0 } ∷ []
+accepted-line = refl
+
+pub accepted-sine : (s : ℤ) → ofSine (sine.Value s) ≡ record { number = 0; value = s }
+accepted-sine s = refl
+
+pub accepted-answer : (bytes : ℕ) → ofWritten (written.Bytes bytes) ≡ record { number = 0; written = bytes }
+accepted-answer bytes = refl
+
+pub accepted-level : (t : ℤ) → ofLevelled (level.Step t) ≡ record { number = 0; value = t }
+accepted-level t = refl
+
+-- ---- the cases of a reading: 0 Level, 1 Under, 2 Over, each with its own greys
+pub kinds : (x y z : Float) → map kindOf (Level x ∷ Under y ∷ Over z ∷ []) ≡ 0 ∷ 1 ∷ 2 ∷ []
+kinds x y z = refl
+
+pub kinds-greys : (x y z : Float) → map greysOf (Level x ∷ Under y ∷ Over z ∷ []) ≡ x ∷ y ∷ z ∷ []
+kinds-greys x y z = refl
+
+pub accepted-reading : (reading : Reading)
+    → ofReading (record { verdict = verdict.Accepted; reading = reading })
+    ≡ record { number = 0; row = 0; column = 0; kind = kindOf reading; greys = greysOf reading }
+accepted-reading reading = refl
+
+pub accepted-summary : (darkest lightest : Float)
+    → ofSummary (record { verdict = verdict.Accepted; summary = record { darkest = darkest; lightest = lightest } })
+    ≡ record { number = 0; row = 0; column = 0; darkest = darkest; lightest = lightest }
+accepted-summary darkest lightest = refl

@@ -1,0 +1,258 @@
+// Settings and answers as C and Rust hold them: structs of numbers with C's layout. What a call answers as an enum, or takes as one, is laid
+// out flat. include/straightener.h says what each field means.
+ghost use mathlib.Core.Path.{_≡_};
+ghost use Rattle.flat.specs.Exported.{borderOf, settingOf, laidAs, ofChange, ofVerdict, ofOutcome, ofLine, ofSine, ofLevelled, kindOf, greysOf, ofReading, ofSummary, ofWritten};
+use format::Written;
+use levelling::Levelled;
+use lines::LineOutcome;
+use pictures::Outcome;
+use readings::Reading;
+use refusals::Verdict;
+use settings::Border;
+use settings::Setting;
+use steps::Change;
+use steps::StepSine;
+
+// What most calls answer: 0 or the refusal number, the row and the column under 6, and the number of lines interpolated.
+#[repr(C)]
+pub struct Answer {
+    pub number: u32,
+    pub row: usize,
+    pub column: usize,
+    pub count: u32,
+}
+
+// A setting: `border` is 0 wrapped, and any other number background of the sample value `background`.
+#[repr(C)]
+pub struct FlatSetting {
+    pub kernel: u32,
+    pub cx: usize,
+    pub cy: usize,
+    pub a: i32,
+    pub b: i32,
+    pub border: u32,
+    pub background: i32,
+}
+
+// A changed setting under 0, or the setting as it was under the refusal number.
+#[repr(C)]
+pub struct FlatChange {
+    pub number: u32,
+    pub setting: FlatSetting,
+}
+
+// 0 and a step or a shear, or the refusal number and 0.
+#[repr(C)]
+pub struct Step {
+    pub number: u32,
+    pub value: i32,
+}
+
+// A reading: `kind` is 0 Level, 1 Under, 2 Over.
+#[repr(C)]
+pub struct ReadingAnswer {
+    pub number: u32,
+    pub row: usize,
+    pub column: usize,
+    pub kind: u32,
+    pub greys: f32,
+}
+
+// The darkest and the lightest grey.
+#[repr(C)]
+pub struct SummaryAnswer {
+    pub number: u32,
+    pub row: usize,
+    pub column: usize,
+    pub darkest: f32,
+    pub lightest: f32,
+}
+
+// 0 and the bytes written of an answer to a line, or 2 and none.
+#[repr(C)]
+pub struct LineAnswer {
+    pub number: u32,
+    pub written: usize,
+}
+
+// ---- settings that come and go flat
+
+pub fn border_of(border: u32, background: i32) -> Border
+    ensures { λ r. ⌜ r ≡ borderOf border background ⌝ }
+{
+    if border == 0 {
+        return Border::Wrapped;
+    }
+    Border::Background(background)
+}
+
+pub fn setting_of(setting: FlatSetting) -> Setting
+    ensures { λ r. ⌜ r ≡ settingOf setting ⌝ }
+{
+    let border = border_of(setting.border, setting.background);
+    Setting {
+        kernel: setting.kernel,
+        cx: setting.cx,
+        cy: setting.cy,
+        a: setting.a,
+        b: setting.b,
+        border,
+    }
+}
+
+// A changed setting laid out flat, with the border's two fields as they were handed in: no change but `with_border` touches them.
+pub fn laid_as(setting: FlatSetting, changed: Setting) -> FlatSetting
+    ensures { λ r. ⌜ r ≡ laidAs setting changed ⌝ }
+{
+    FlatSetting {
+        kernel: changed.kernel,
+        cx: changed.cx,
+        cy: changed.cy,
+        a: changed.a,
+        b: changed.b,
+        border: setting.border,
+        background: setting.background,
+    }
+}
+
+pub fn of_change(setting: FlatSetting, change: Change) -> FlatChange
+    ensures { λ r. ⌜ r ≡ ofChange setting change ⌝ }
+{
+    let changed = change.setting;
+    let flat = laid_as(setting, changed);
+    FlatChange {
+        number: change.number,
+        setting: flat,
+    }
+}
+
+// ---- answers laid out flat
+
+pub fn accepted(count: u32) -> Answer
+    ensures { λ r. ⌜ r ≡ record { number = 0; row = 0; column = 0; count = count } ⌝ }
+{
+    Answer {
+        number: 0,
+        row: 0,
+        column: 0,
+        count,
+    }
+}
+
+pub fn refused(number: u32, row: usize, column: usize) -> Answer
+    ensures { λ r. ⌜ r ≡ record { number = number; row = row; column = column; count = 0 } ⌝ }
+{
+    Answer {
+        number,
+        row,
+        column,
+        count: 0,
+    }
+}
+
+pub fn of_verdict(verdict: Verdict) -> Answer
+    ensures { λ r. ⌜ r ≡ ofVerdict verdict ⌝ }
+{
+    match verdict {
+        Verdict::Accepted => accepted(0),
+        Verdict::Refused(number, row, column) => refused(number, row, column),
+    }
+}
+
+pub fn of_outcome(outcome: Outcome) -> Answer
+    ensures { λ r. ⌜ r ≡ ofOutcome outcome ⌝ }
+{
+    match outcome {
+        Outcome::Straightened(count) => accepted(count),
+        Outcome::Refused(number, row, column) => refused(number, row, column),
+    }
+}
+
+pub fn of_line(outcome: LineOutcome) -> Answer
+    ensures { λ r. ⌜ r ≡ ofLine outcome ⌝ }
+{
+    match outcome {
+        LineOutcome::Moved(interpolated) => accepted(interpolated as u32),
+        LineOutcome::Refused(number, row, column) => refused(number, row, column),
+    }
+}
+
+pub fn of_sine(sine: StepSine) -> Step
+    ensures { λ r. ⌜ r ≡ ofSine sine ⌝ }
+{
+    match sine {
+        StepSine::Value(value) => Step { number: 0, value },
+        StepSine::Refused(number) => Step { number, value: 0 },
+    }
+}
+
+pub fn of_levelled(levelled: Levelled) -> Step
+    ensures { λ r. ⌜ r ≡ ofLevelled levelled ⌝ }
+{
+    match levelled {
+        Levelled::Step(value) => Step { number: 0, value },
+        Levelled::Refused(number) => Step { number, value: 0 },
+    }
+}
+
+pub fn kind_of(reading: Reading) -> u32
+    ensures { λ r. ⌜ r ≡ kindOf reading ⌝ }
+{
+    match reading {
+        Reading::Level(_) => 0,
+        Reading::Under(_) => 1,
+        Reading::Over(_) => 2,
+    }
+}
+
+pub fn greys_of(reading: Reading) -> f32
+    ensures { λ r. ⌜ r ≡ greysOf reading ⌝ }
+{
+    match reading {
+        Reading::Level(greys) => greys,
+        Reading::Under(greys) => greys,
+        Reading::Over(greys) => greys,
+    }
+}
+
+pub fn of_reading(answer: readings::ReadingAnswer) -> ReadingAnswer
+    ensures { λ r. ⌜ r ≡ ofReading answer ⌝ }
+{
+    let verdict = answer.verdict;
+    let judged = of_verdict(verdict);
+    let reading = answer.reading;
+    ReadingAnswer {
+        number: judged.number,
+        row: judged.row,
+        column: judged.column,
+        kind: kind_of(reading),
+        greys: greys_of(reading),
+    }
+}
+
+pub fn of_summary(answer: readings::SummaryAnswer) -> SummaryAnswer
+    ensures { λ r. ⌜ r ≡ ofSummary answer ⌝ }
+{
+    let verdict = answer.verdict;
+    let judged = of_verdict(verdict);
+    let summary = answer.summary;
+    SummaryAnswer {
+        number: judged.number,
+        row: judged.row,
+        column: judged.column,
+        darkest: summary.darkest,
+        lightest: summary.lightest,
+    }
+}
+
+pub fn of_written(written: Written) -> LineAnswer
+    ensures { λ r. ⌜ r ≡ ofWritten written ⌝ }
+{
+    match written {
+        Written::Bytes(n) => LineAnswer {
+            number: 0,
+            written: n,
+        },
+        Written::Refused(number) => LineAnswer { number, written: 0 },
+    }
+}

@@ -1,0 +1,3 @@
+-- Neighbouring lines of a picture in a work buffer.
+--     Four   four lines at a time
+pub mod Four

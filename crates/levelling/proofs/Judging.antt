@@ -1,0 +1,98 @@
+-- What the tests of levelling tell, and the answers that follow. Assumes nothing.
+use Prim.Native.Nat.{zero, suc, _≤_}
+use mathlib.Core.Path.{_≡_, refl, sym, ap, _∙_, subst}
+use mathlib.Core.Bool.{Bool, true, false, cond, _||_, or-assoc, or-self, or-true, or-false}
+use native.Mathlib.Omega.{arith}
+use lib.Dec.{ltb}
+use lib.IntN.{ℤ, pos, negsuc, negℤ, natAbs, _+ℤ_, _-ℤ_, +ℤ-idl}
+use lib.Signed.{ltZ, _≤ℤ_}
+use mir.Syntax.{w64}
+use mir.Val.{SFits}
+use Rattle.arith.proofs.Bridge.{bridge, all2}
+use Rattle.arith.proofs.Machine.{lt-false}
+use Rattle.refusals.proofs.Tests.{or-false as neither}
+use Rattle.levelling.specs.Level.{outside, anyOutside, steep, levelling, directionOf, levelOf, levelNumber, levelStep, Levels, LevelAnswer}
+use Rattle.levelling.specs.Search.{Flat}
+use Rattle.levelling.specs.declared.Levelled.{Levelled}
+use Rattle.levelling.specs.declared.Levelled.the-variants.{Step, Refused}
+use Rattle.levelling.proofs.Levelling.{levelled-least}
+
+-- ---- number 7
+pub inside : (c : ℤ) → outside c ≡ false → (pos 0 ≤ℤ c) × (c ≤ℤ pos 1023)
+unfolding outside
+inside c e = let (low, high) = neither (ltZ c (pos 0)) (ltZ (pos 1023) c) e in (lt-false c (pos 0) low, lt-false (pos 1023) c high)
+
+pub span-range : (a b : ℤ) → outside a ≡ false → outside b ≡ false → SFits w64 (b -ℤ a) × (natAbs (b -ℤ a) ≤ 1023)
+span-range a b ea eb = apart a b (inside a ea) (inside b eb)
+  where
+    apart : (a b : ℤ) → (pos 0 ≤ℤ a) × (a ≤ℤ pos 1023) → (pos 0 ≤ℤ b) × (b ≤ℤ pos 1023) → SFits w64 (b -ℤ a) × (natAbs (b -ℤ a) ≤ 1023)
+    apart = all2 _ (simp bridge (omega arith))
+
+pub none-outside : (x1 y1 x2 y2 : ℤ) → anyOutside x1 y1 x2 y2 ≡ false
+    → (outside x1 ≡ false) × (outside y1 ≡ false) × (outside x2 ≡ false) × (outside y2 ≡ false)
+unfolding anyOutside
+none-outside x1 y1 x2 y2 e =
+    let (e3, d) = neither _ (outside y2) e in
+    let (e2, c) = neither _ (outside x2) e3 in
+    let (a, b) = neither (outside x1) (outside y1) e2 in
+    (a, b, c, d)
+
+-- ---- number 8: |y| is above x where y or -y is
+size-above : (x y : ℤ) → (ltZ x y || ltZ x (negℤ y)) ≡ ltZ x (pos (natAbs y))
+size-above (pos m) (pos zero) = or-self _
+size-above (pos m) (pos (suc n)) = or-false _
+size-above (negsuc m) (pos n) = refl
+size-above (pos m) (negsuc n) = refl
+size-above (negsuc m) (negsuc n) = or-true (ltb n m)
+
+pub steep-tests : (dx dy : ℤ) → (ltZ dx (pos 1) || ltZ dx dy || ltZ dx (pos 0 -ℤ dy)) ≡ steep dx dy
+unfolding steep
+steep-tests dx dy =
+    or-assoc (ltZ dx (pos 1)) (ltZ dx dy) _
+    ∙ ap (λ (b : Bool). ltZ dx (pos 1) || b) (ap (λ (z : ℤ). ltZ dx dy || ltZ dx z) (+ℤ-idl (negℤ dy)) ∙ size-above dx dy)
+
+pub flat : (dx dy : ℤ) → natAbs dx ≤ 1023 → steep dx dy ≡ false → Flat dx dy
+unfolding steep
+flat dx dy h e =
+    let (some, size) = neither (ltZ dx (pos 1)) (ltZ dx (pos (natAbs dy))) e in
+    let (wide, down, up) = bounds dx dy h (lt-false dx (pos (natAbs dy)) size) in
+    record { some = lt-false dx (pos 1) some; wide = wide; down = down; up = up }
+  where
+    bounds : (dx dy : ℤ) → natAbs dx ≤ 1023 → pos (natAbs dy) ≤ℤ dx → (dx ≤ℤ pos 1023) × (dy ≤ℤ dx) × (pos 0 ≤ℤ (dx +ℤ dy))
+    bounds = all2 _ (simp bridge (omega arith))
+
+-- ---- the answer, by its tests
+pub answered : (x1 y1 x2 y2 : ℤ) → LevelAnswer x1 y1 x2 y2 (levelOf x1 y1 x2 y2)
+unfolding levelOf directionOf
+answered x1 y1 x2 y2 =
+    let seven = anyOutside x1 y1 x2 y2 in
+    let eight = steep (x2 -ℤ x1) (y2 -ℤ y1) in
+    record { answer = refl; number = number seven eight; step = step seven eight }
+  where
+    by : Bool → Bool → Levelled
+    by seven eight = cond seven (Refused 7) (cond eight (Refused 8) (Step (levelling (x2 -ℤ x1) (y2 -ℤ y1))))
+
+    number : (seven eight : Bool) → levelNumber (by seven eight) ≡ cond seven 7 (cond eight 8 0)
+    number true eight = refl
+    number false true = refl
+    number false false = refl
+
+    step : (seven eight : Bool) → levelNumber (by seven eight) ≡ 0 → Levels (x2 -ℤ x1) (y2 -ℤ y1) (levelStep (by seven eight))
+    step true eight e = absurd (omega arith)
+    step false true e = absurd (omega arith)
+    step false false e = levelled-least (x2 -ℤ x1) (y2 -ℤ y1)
+
+module _ (x1 y1 x2 y2 : ℤ) where
+  is-outside : anyOutside x1 y1 x2 y2 ≡ true → levelOf x1 y1 x2 y2 ≡ Refused 7
+  unfolding levelOf
+  is-outside e = rw e refl
+
+  is-inside : anyOutside x1 y1 x2 y2 ≡ false → levelOf x1 y1 x2 y2 ≡ directionOf (x2 -ℤ x1) (y2 -ℤ y1)
+  unfolding levelOf
+  is-inside e = rw e refl
+
+  pub answer-outside : anyOutside x1 y1 x2 y2 ≡ true → LevelAnswer x1 y1 x2 y2 (Refused 7)
+  answer-outside e = subst (LevelAnswer x1 y1 x2 y2) (is-outside e) (answered x1 y1 x2 y2)
+
+  pub answer-inside : {r : Levelled} → anyOutside x1 y1 x2 y2 ≡ false → r ≡ directionOf (x2 -ℤ x1) (y2 -ℤ y1) → LevelAnswer x1 y1 x2 y2 r
+  answer-inside e q = subst (LevelAnswer x1 y1 x2 y2) (is-inside e ∙ sym q) (answered x1 y1 x2 y2)

@@ -1,0 +1,17 @@
+-- Laws of one moved line.
+--     Rules      the definition follows document 01's sentences; a line's own places alone decide it
+--     Mixed      the weighted sum of a multiple, and of one grey
+--     Reach      how far the moved samples reach
+--     Window     a line weighed in place, by a window that slides along it
+--     InPlace    prepared, weighed in place and turned, a line is moved
+--     Whole      a line that moves by whole places
+--     Border     a line moved under a border
+--     Kept       a part of a row weighed as a line of its own
+pub mod Rules
+pub mod Mixed
+pub mod Reach
+pub mod Window
+pub mod InPlace
+pub mod Whole
+pub mod Border
+pub mod Kept

@@ -1,0 +1,9 @@
+-- One line moved, document 01's 'One line moved'.
+--     Move      the move, in the document's words
+--     Border    the same under a border
+--     InPlace   the move by steps, as the code takes them
+--     Row       the row that a line is moved in under a border
+pub mod Move
+pub mod Border
+pub mod InPlace
+pub mod Row

@@ -1,0 +1,31 @@
+-- `fraction_of` is f of the line's held move. Assumes nothing.
+use mathlib.Core.Path.{_≡_, ap, _∙_}
+use native.Mathlib.Omega.{arith}
+use borrow.Author.Needs.{needs}
+use lib.IntN.{pos}
+use mir.Syntax.{w32, w64}
+use mir.Val.{toZ, ofZ}
+use mir.Facts.{toZ-ofZ}
+use Rattle.arith.specs.Move.{fraction}
+use Rattle.arith.proofs.Machine.{read-back}
+use Rattle.moves.specs.Row.{held}
+use Rattle.passes.specs.Picture.{shear}
+use Rattle.offsets.proofs.fraction_of.Statement.{statement}
+use Rattle.offsets.proofs.fraction_of.Tie as tie
+
+moved : (c : tie.After-held-of) → let a = c .before .args in toZ w64 (ofZ w64 (c .held-of .result)) ≡ held (a .border) (a .n) (shear (a .a) (a .c) (a .y))
+moved c =
+    let a = c .before .args in
+    read-back w64 _ (c .held-of .ok) ∙ c .held-of .ensures .0 ∙ ap (λ z. held (a .border) (a .n) (shear z (a .c) (a .y))) (toZ-ofZ (c .before .fits .a))
+
+held-of-requires : tie.Need-held-of-requires
+held-of-requires c κs = search needs
+
+fraction-part-requires : tie.Need-fraction-part-requires
+fraction-part-requires c κs = rw (read-back w64 _ (c .held-of .ok)) (omega (arith, c .held-of .ensures .1))
+
+returns : tie.Need-returns
+returns c = read-back w32 _ (c .fraction-part .ok) ∙ c .fraction-part .ensures ∙ ap (λ d. pos (fraction d)) (moved (c .before))
+
+pub fraction-of-spec : {M : Type 1} → statement M
+fraction-of-spec = tie.close (tie.spec held-of-requires fraction-part-requires returns)

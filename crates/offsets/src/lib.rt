@@ -1,0 +1,70 @@
+// How far each line of a shear moves: line y of n places by a·(y - c), in 4,096ths of a sample, and under background by no more than n samples.
+//     fraction_of   f of a line's move
+//     start_at      the place of its weighed row that a line's first output is read from
+//     count_lines   how many lines are interpolated
+ghost use mathlib.Core.Path.{_≡_};
+ghost use Prim.Native.Nat.{_<_, _≤_, min};
+ghost use lib.IntN.{pos, natAbs};
+ghost use Rattle.arith.specs.Move.{fraction};
+ghost use Rattle.moves.specs.Border.{fractionIn};
+ghost use Rattle.moves.specs.Row.{places, startAt, held};
+ghost use Rattle.passes.specs.Picture.{shear};
+ghost use Rattle.passes.specs.Count.{interpolated};
+use settings::Border;
+
+// How far line y moves.
+fn move_of(a: i32, c: usize, y: usize) -> i64
+    requires { ⌜ (natAbs a ≤ 4096) × (c ≤ 1024) × (y ≤ 1024) ⌝ }
+    ensures { λ r. ⌜ (r ≡ shear a c y) × (natAbs r ≤ 4194304) ⌝ }
+{
+    a as i64 * (y as i64 - c as i64)
+}
+
+// How far line y of n places is moved: no farther than n samples under background.
+fn held_of(border: Border, n: usize, a: i32, c: usize, y: usize) -> i64
+    requires { ⌜ (n ≤ 1024) × (natAbs a ≤ 4096) × (c ≤ 1024) × (y ≤ 1024) ⌝ }
+    ensures { λ r. ⌜ (r ≡ held border n (shear a c y)) × (natAbs r ≤ 4194304) ⌝ }
+{
+    rows::held_of(border, n, move_of(a, c, y))
+}
+
+// f of line y, from 0 to 4,095.
+pub fn fraction_of(border: Border, n: usize, a: i32, c: usize, y: usize) -> i32
+    requires { ⌜ (n ≤ 1024) × (natAbs a ≤ 4096) × (c ≤ 1024) × (y ≤ 1024) ⌝ }
+    ensures { λ r. ⌜ r ≡ pos (fraction (held border n (shear a c y))) ⌝ }
+{
+    arith::fraction_part(held_of(border, n, a, c, y))
+}
+
+// The place that output 0 of line y of n places is read from.
+pub fn start_at(border: Border, n: usize, a: i32, c: usize, y: usize) -> usize
+    requires { ⌜ (1 ≤ n) × (n ≤ 1024) × (natAbs a ≤ 4096) × (c ≤ 1024) × (y ≤ 1024) ⌝ }
+    ensures { λ r. ⌜ (r ≡ startAt border n (held border n (shear a c y))) × (r < places border n) ⌝ }
+{
+    rows::start_of(border, held_of(border, n, a, c, y), n)
+}
+
+// 1 where line y is interpolated, else 0.
+fn interpolates(border: Border, n: usize, a: i32, c: usize, y: usize) -> u32
+    requires { ⌜ (n ≤ 1024) × (natAbs a ≤ 4096) × (c ≤ 1024) × (y ≤ 1024) ⌝ }
+    ensures { λ r. ⌜ r ≡ min 1 (fractionIn border n (shear a c y)) ⌝ }
+{
+    if fraction_of(border, n, a, c, y) == 0 {
+        return 0;
+    }
+    1
+}
+
+// How many of the first lines are interpolated.
+pub fn count_lines(border: Border, n: usize, a: i32, c: usize, lines: usize) -> u32
+    requires { ⌜ (n ≤ 1024) × (natAbs a ≤ 4096) × (c ≤ 1024) × (lines ≤ 1024) ⌝ }
+    ensures { λ r. ⌜ (r ≡ interpolated border n (shear a c) lines) × (r ≤ 1024) ⌝ }
+{
+    let mut count: u32 = 0;
+    let mut y: usize = 0;
+    while y < lines {
+        count += interpolates(border, n, a, c, y);
+        y += 1;
+    }
+    count
+}
