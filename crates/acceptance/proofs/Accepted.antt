@@ -1,7 +1,7 @@
 -- A call is accepted just where no number applies. Assumes nothing.
 use Prim.Native.Nat.{ℕ, _*_, _≤_, _<_, max}
 use mathlib.Core.Path.{_≡_, refl, ap}
-use mathlib.Core.Bool.{Bool, true, false}
+use mathlib.Core.Bool.{Bool, true, false, _||_}
 use mathlib.Core.List.{List}
 use native.Mathlib.Nat.{mul-comm}
 use native.Mathlib.Omega.{arith}
@@ -22,7 +22,7 @@ use Rattle.refusals.proofs.First.{nothing-bad, BadAt, first-bad}
 use Rattle.settings.specs.declared.Setting.{Setting}
 use Rattle.moves.specs.Border.{badBackground}
 use Rattle.moves.proofs.Border.{background-good, good-background}
-use Rattle.acceptance.specs.Judge.{range, tooShort, badCentre, badShears, judged, Fit}
+use Rattle.acceptance.specs.Judge.{range, workPlaces, tooShort, badCentre, badShears, judged, Fit}
 
 -- ---- what each test that failed tells
 pub long-enough : (W H picture result work : ℕ) → tooShort W H picture result work ≡ false → (W * H ≤ picture) × (W * H ≤ result) × (12 * max W H ≤ work)
@@ -31,6 +31,12 @@ long-enough W H picture result work e =
     let a = or-false (short picture (W * H)) _ e in
     let b = or-false (short result (W * H)) _ (a .1) in
     (short-good (a .0), short-good (b .0), short-good (b .1))
+
+-- the work that number 2 asks for is what a caller is told, of every size that number 1 does not refuse
+pub work-asked : (W H picture result work : ℕ) → badSize W H ≡ false
+    → tooShort W H picture result work ≡ (short picture (W * H) || (short result (W * H) || short work (workPlaces W H)))
+unfolding tooShort workPlaces
+work-asked W H picture result work good = rw good refl
 
 centre-inside : (W H : ℕ) (s : Setting) → badCentre W H s ≡ false → (s .cx < W) × (s .cy < H)
 unfolding badCentre

@@ -1,4 +1,4 @@
--- Verdicts at both ends of every range and one past each, in the order of the numbers, worked out by the checker. Assumes nothing.
+-- Work places, and verdicts at both ends of every range and one past each, in the order of the numbers, worked out by the checker. Assumes nothing.
 use Prim.Native.Nat.{ℕ, _*_, max}
 use mathlib.Core.Path.{_≡_, refl}
 use mathlib.Core.List.{List, [], _∷_, map}
@@ -12,7 +12,18 @@ use Rattle.settings.specs.declared.Border.the-variants.{Wrapped, Background}
 use Rattle.settings.specs.declared.Setting.{Setting}
 use Rattle.settings.specs.Setting.{withBorder}
 use Rattle.moves.specs.Border.{badBackground}
-use Rattle.acceptance.specs.Judge.{tooShort, badCentre, badShears, judged}
+use Rattle.acceptance.specs.Judge.{workPlaces, tooShort, badCentre, badShears, judged}
+
+-- the work places of sizes at both ends, and of those one past each
+asked :
+    workPlaces 1 1 ∷ workPlaces 3 2 ∷ workPlaces 2 3 ∷ workPlaces 1024 1 ∷ workPlaces 1 1024 ∷ []
+    ≡ 12 ∷ 36 ∷ 36 ∷ 12288 ∷ 12288 ∷ []
+unfolding workPlaces badSize badSide
+asked = refl
+
+asked-refused : workPlaces 0 1 ∷ workPlaces 1 0 ∷ workPlaces 1025 1 ∷ workPlaces 1 1025 ∷ [] ≡ 0 ∷ 0 ∷ 0 ∷ 0 ∷ []
+unfolding workPlaces badSize badSide
+asked-refused = refl
 
 -- a wrapped setting: kernel, centre and shears
 abbrev set : ℕ → ℕ → ℕ → ℤ → ℤ → Setting

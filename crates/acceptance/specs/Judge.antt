@@ -1,6 +1,6 @@
--- Which calls are straightened: the tests of numbers 1 to 5, 12 and 6, in their order. Assumes nothing.
+-- Which calls are straightened: the work places that one takes, and the tests of numbers 1 to 5, 12 and 6, in their order. Assumes nothing.
 use Prim.Native.Nat.{ℕ, _*_, _≤_, _<_, max}
-use mathlib.Core.Bool.{Bool, _||_}
+use mathlib.Core.Bool.{Bool, _||_, cond}
 use mathlib.Core.List.{List}
 use lib.Dec.{leb}
 use lib.IntN.{ℤ, natAbs}
@@ -14,6 +14,10 @@ use Rattle.moves.specs.Border.{badBackground, grey}
 -- the samples of a picture that is straightened are within ±32,767
 abbrev pub range : ℕ
 range = 32767
+
+-- the work places that a picture of this size takes, 0 for a size that number 1 refuses
+unfoldable pub workPlaces : ℕ → ℕ → ℕ
+workPlaces W H = cond (badSize W H) 0 (12 * max W H)
 
 -- 2: under W·H places for the picture or the result, or under 12·max(W, H) for work
 unfoldable pub tooShort : ℕ → ℕ → ℕ → ℕ → ℕ → Bool

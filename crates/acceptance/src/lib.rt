@@ -1,18 +1,30 @@
-// Whether a call is straightened: the tests of numbers 1 to 5, 12 and 6, in their order. Nothing is written.
+// Whether a call is straightened: the tests of numbers 1 to 5, 12 and 6, in their order, and the work places that it takes. Nothing is written.
 ghost use mathlib.Core.Path.{_≡_};
-ghost use Prim.Native.Nat.{_≤_, max};
-ghost use Rattle.acceptance.specs.Judge.{tooShort, badCentre, badShears, judged};
+ghost use Prim.Native.Nat.{_*_, _≤_, max};
+ghost use Rattle.acceptance.specs.Judge.{workPlaces, tooShort, badCentre, badShears, judged};
 use refusals::Verdict;
 use settings::Setting;
 
 // The samples of a picture that is straightened are within plus or minus this, in 128ths of a grey.
 const RANGE: i32 = 32_767;
 
-// The longer side.
-pub fn longer(width: usize, height: usize) -> usize
-    ensures { λ r. ⌜ r ≡ max width height ⌝ }
+// The work places that a picture takes: 12 for each sample of its longer side.
+pub fn room(width: usize, height: usize) -> usize
+    requires { ⌜ (width ≤ 1024) × (height ≤ 1024) ⌝ }
+    ensures { λ r. ⌜ r ≡ 12 * max width height ⌝ }
 {
-    if width < height { height } else { width }
+    12 * arith::most(width, height)
+}
+
+// The same for a caller, who may ask about any size: 0 for one that number 1 refuses.
+pub fn work_places(width: usize, height: usize) -> usize
+    ensures { λ r. ⌜ r ≡ workPlaces width height ⌝ }
+{
+    let refused = refusals::bad_size(width, height);
+    if refused {
+        return 0;
+    }
+    room(width, height)
 }
 
 // Number 2: whether a buffer is too short, by their numbers of places.
@@ -27,7 +39,7 @@ fn too_short(width: usize, height: usize, picture: usize, result: usize, work: u
     if result < places {
         return true;
     }
-    work < 12 * longer(width, height)
+    work < room(width, height)
 }
 
 // Number 3: whether the centre is outside the picture.

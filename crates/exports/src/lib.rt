@@ -3,6 +3,8 @@
 ghost use mathlib.Core.Path.{_≡_};
 ghost use Rattle.pictures.specs.Answer.{Answer as PictureStraightened};
 ghost use Rattle.lines.specs.Answer.{LineMoved};
+ghost use Rattle.lines.specs.Answer as line;
+ghost use Rattle.acceptance.specs.Judge.{workPlaces};
 ghost use Rattle.settings.specs.Setting.{withKernel, withCentre, withShears, withBorder};
 ghost use Rattle.steps.specs.Step.{SineAnswer, changeOf};
 ghost use Rattle.levelling.specs.Level.{LevelAnswer};
@@ -63,6 +65,22 @@ pub extern "C" fn straightener_move_line(
         result,
         work,
     ))
+}
+
+// The work places that a picture takes.
+#[no_mangle]
+pub extern "C" fn straightener_work_places(width: usize, height: usize) -> usize
+    ensures { λ r. ⌜ r ≡ workPlaces width height ⌝ }
+{
+    acceptance::work_places(width, height)
+}
+
+// The work places that a line takes.
+#[no_mangle]
+pub extern "C" fn straightener_line_work_places(n: usize) -> usize
+    ensures { λ r. ⌜ r ≡ line.workPlaces n ⌝ }
+{
+    lines::work_places(n)
 }
 
 // The setting with another kernel.

@@ -1,7 +1,7 @@
 -- The call that moves one line: what an accepted call has passed, what its buffers hold at each step, and the answer in either case.
 -- Assumes nothing.
-use mathlib.Core.Path.{_≡_, sym, ap, _∙_}
-use mathlib.Core.Bool.{Bool, cond}
+use mathlib.Core.Path.{_≡_, refl, sym, ap, _∙_}
+use mathlib.Core.Bool.{Bool, false, _||_, cond}
 use mathlib.Core.List.{List, _++_}
 use Prim.Native.Nat.{ℕ, _+_, _*_, _-_, _≤_, _<_}
 use native.Mathlib.Omega.{arith}
@@ -31,7 +31,12 @@ use Rattle.moves.specs.Row.{places, setIn, startAt, held, Covers, loadedOf, wei
 use Rattle.moves.proofs.Border.{held-fraction, background-good}
 use Rattle.moves.proofs.Kept.{kept-in-place}
 use Rattle.lines.specs.declared.LineOutcome.the-variants.{Moved, Refused}
-use Rattle.lines.specs.Answer.{farthest, range, tooShort, judged, Movable, isInterpolated, outcomeBy, outcomeOf, LineMoved}
+use Rattle.lines.specs.Answer.{farthest, range, workPlaces, tooShort, judged, Movable, isInterpolated, outcomeBy, outcomeOf, LineMoved}
+
+-- the work that number 2 asks for is what a caller is told, of every length that number 1 does not refuse
+pub work-asked : (n line result work : ℕ) → badSide n ≡ false → tooShort n line result work ≡ (short line n || (short result n || short work (workPlaces n)))
+unfolding tooShort workPlaces
+work-asked n line result work good = rw good refl
 
 -- what an accepted call has passed
 module _ (n kernel : ℕ) (d : ℤ) (β : Border) (line : List ℤ) (result work : ℕ) where

@@ -1,4 +1,4 @@
--- Verdicts on a line at the ends of each range and in the order of the numbers, and the figures of outcomes, worked out by the checker.
+-- Work places, verdicts on a line at the ends of each range and in the order of the numbers, and the figures of outcomes, worked out by the checker.
 -- Assumes nothing.
 use mathlib.Core.Path.{_≡_, refl}
 use mathlib.Core.List.{List, [], _∷_, map}
@@ -14,7 +14,12 @@ use Rattle.settings.specs.declared.Border.{Border}
 use Rattle.settings.specs.declared.Border.the-variants.{Wrapped, Background}
 use Rattle.moves.specs.Border.{far, gone, fractionIn, badBackground}
 use Rattle.lines.specs.declared.LineOutcome.{LineOutcome}
-use Rattle.lines.specs.Answer.{tooShort, judged, isInterpolated, outcomeOf, numberOf, rowOf, columnOf, countOf}
+use Rattle.lines.specs.Answer.{workPlaces, tooShort, judged, isInterpolated, outcomeOf, numberOf, rowOf, columnOf, countOf}
+
+-- the work places of lengths at both ends, and of those one past each
+asked : map workPlaces (1 ∷ 7 ∷ 1024 ∷ 0 ∷ 1025 ∷ []) ≡ 6 ∷ 42 ∷ 6144 ∷ 0 ∷ 0 ∷ []
+unfolding workPlaces badSide
+asked = refl
 
 -- a call: n, the kernel, d, the border, the line, and the places of the result and the work
 data Call : Type 0 where

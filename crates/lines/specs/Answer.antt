@@ -24,6 +24,10 @@ farthest = 4194304
 abbrev pub range : ℕ
 range = 294912
 
+-- the work places that a line of n samples takes, 0 for a length that number 1 refuses
+unfoldable pub workPlaces : ℕ → ℕ
+workPlaces n = cond (badSide n) 0 (6 * n)
+
 -- 2: the line or the result under n places, or the work under 6n
 unfoldable pub tooShort : ℕ → ℕ → ℕ → ℕ → Bool
 tooShort n line result work = short line n || (short result n || short work (6 * n))

@@ -8,7 +8,7 @@ ghost use lib.IntN.{pos};
 ghost use Rattle.kernels.specs.Kernel.{kernelOf};
 ghost use Rattle.moves.specs.Border.{moveIn};
 ghost use Rattle.moves.specs.Row.{places};
-ghost use Rattle.lines.specs.Answer.{tooShort, judged, Movable, isInterpolated, LineMoved};
+ghost use Rattle.lines.specs.Answer.{workPlaces, tooShort, judged, Movable, isInterpolated, LineMoved};
 use refusals::Verdict;
 use settings::Border;
 
@@ -21,6 +21,16 @@ const RANGE: i32 = 294_912;
 pub enum LineOutcome {
     Moved(bool),
     Refused(u32, usize, usize),
+}
+
+// The work places that a line of n samples takes; 0 for a length that number 1 refuses.
+pub fn work_places(n: usize) -> usize
+    ensures { λ r. ⌜ r ≡ workPlaces n ⌝ }
+{
+    if refusals::bad_side(n) {
+        return 0;
+    }
+    6 * n
 }
 
 // Whether the line or the result has under n places, or the work under 6n.

@@ -61,7 +61,7 @@ fn straighten_accepted(
     ensures { λ r. ⌜ r ≡ count (setting .border) width height (rowMoves setting) (columnMoves setting) ⌝ }
 {
     let places = width * height;
-    let room = 12 * acceptance::longer(width, height);
+    let room = acceptance::room(width, height);
     lists::copy(picture, result, places);
     let lines = three_passes(
         &mut result[..places],

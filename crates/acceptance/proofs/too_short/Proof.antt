@@ -18,15 +18,12 @@ returns c = unfold tooShort in unfold short in rw (lt-ltb _ _ (c .if1 .taken)) r
 returns-2 : tie.Need-returns-2
 returns-2 c = unfold tooShort in unfold short in rw (le-ltb _ _ (c .before .if1 .left), lt-ltb _ _ (c .if2 .taken)) refl
 
-longer-requires : tie.Need-longer-requires
-longer-requires c κs = search needs
-
-mul-result : tie.Need-mul-result
-mul-result c = search needs
+room-requires : tie.Need-room-requires
+room-requires c κs = search needs
 
 returns-3 : tie.Need-returns-3
-returns-3 c = unfold tooShort in unfold short in rw (le-ltb _ _ (c .before .before .if1 .left), le-ltb _ _ (c .before .if2 .left), c .longer .ensures) refl
+returns-3 c = unfold tooShort in unfold short in rw (le-ltb _ _ (c .before .before .if1 .left), le-ltb _ _ (c .before .if2 .left), c .room .ensures) refl
 
 pub too-short-spec : {M : Type 1} → statement M
 too-short-spec =
-    tie.close (tie.spec mul-places returns returns-2 longer-requires mul-result returns-3)
+    tie.close (tie.spec mul-places returns returns-2 room-requires returns-3)

@@ -28,17 +28,14 @@ copied c =
     ap (take n) (c .copy .ensures) ∙ take-at (take n (s .args .picture .now)) (drop n (s .args .result .now)) n (whole s)
 
 -- the part of work that is lent is as long as was asked
-lent : (c : tie.After-longer) → length (take (12 * c .longer .result) (c .before .args .work .now)) ≡ 12 * c .longer .result
-lent c = length-take-le (12 * c .longer .result) (c .before .args .work .now) (omega (arith, c .longer .ensures, c .before .pre .work-places))
+lent : (c : tie.After-room) → length (take (c .room .result) (c .before .args .work .now)) ≡ c .room .result
+lent c = length-take-le (c .room .result) (c .before .args .work .now) (omega (arith, c .room .ensures, c .before .pre .work-places))
 
 mul-places : tie.Need-mul-places
 mul-places c = search needs
 
-longer-requires : tie.Need-longer-requires
-longer-requires c κs = search needs
-
-mul-room : tie.Need-mul-room
-mul-room c = search needs
+room-requires : tie.Need-room-requires
+room-requires c κs = (c .pre .width .1, c .pre .height .1)
 
 copy-requires : tie.Need-copy-requires
 copy-requires c κs = search needs
@@ -60,7 +57,7 @@ three-passes-requires c κs =
     let k = c .before .before .before in
     let s = c .before .before .before .before .before .before in
     let l = c .before .before .before .before .before in
-    (copy-fit _ _ (s .pre) (copied k) (omega (arith, l .longer .ensures, lent l)), ap length (copied k) ∙ whole s)
+    (copy-fit _ _ (s .pre) (copied k) (omega (arith, l .room .ensures, lent l)), ap length (copied k) ∙ whole s)
 
 clear-requires : tie.Need-clear-requires
 clear-requires c κs = search needs
@@ -79,12 +76,12 @@ returns c =
     let s = l .before in
     let a = s .args in
     let n = places s in
-    let m = 12 * l .longer .result in
+    let m = l .room .result in
     let straightened = straighten (a .setting .border) (kernelIn (a .setting)) (a .width) (a .height) (rowMoves (a .setting)) (columnMoves (a .setting)) in (
       ap₂ _++_ (t .ensures .0 ∙ ap straightened (copied k))
           (ap (drop n) (k .copy .ensures) ∙ drop-at (take n (a .picture .now)) (drop n (a .result .now)) n (whole s)),
       (
-        rw (l .longer .ensures) at
+        rw (l .room .ensures) at
             (c .before .clear .ensures ∙ ap (λ (x : List ℤ). replicate m (pos 0) ++ x) (drop-at (t .last .1 .0) (drop m (a .work .now)) m (t .kept .1 .0 ∙ lent l))),
         t .ensures .1,
       ),
@@ -95,8 +92,7 @@ straighten-accepted-spec =
     tie.close
     (tie.spec
     mul-places
-    longer-requires
-    mul-room
+    room-requires
     copy-requires
     slice-relend-prefix-three-passes
     slice-aggregate-three-passes
