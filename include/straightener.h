@@ -1,19 +1,24 @@
 /*
  * straightener.h - pictures of analyser screens straightened by three shears in whole numbers.
  *
- * The functions are in the static library libexports.a (rt staticlib exports), which is code for x86-64
- * Linux and needs nothing but the C library. Each function is proved to answer what is said here for
- * every input, as long as every buffer is there, has as many places as its length says, and overlaps no
- * other buffer of the call. The proof is about the functions as they are written; that the kit's
- * compiler keeps their meaning is assumed, and tested from C and Rust.
+ * The functions are in the static library libstraightener.a, which is code for x86-64 Linux and needs
+ * nothing but the C library. Each function is proved to answer what is said here for every input, as
+ * long as every buffer is there, has as many places as its length says, and overlaps no other buffer of
+ * the call. The proof is about the functions as they are written; that the kit's compiler keeps their
+ * meaning is assumed, and tested from C and Rust. straightener_words alone stands in this header, and is
+ * tested and not proved.
  *
- * Straightening     straightener_straighten, straightener_move_line
+ *     cc program.c $(pkg-config --cflags --libs straightener)
+ *
+ * Straightening     straightener_straighten, straightener_work_places,
+ *                   straightener_move_line, straightener_line_work_places
  * Settings, steps   straightener_with_kernel, straightener_with_centre, straightener_with_shears,
  *                   straightener_with_border, straightener_with_step, straightener_sine,
  *                   straightener_level
  * Readings          straightener_greys_out, straightener_floats_out, straightener_reading,
  *                   straightener_summary
  * Line format       straightener_answer_line
+ * Refusals          straightener_words
  *
  * Pictures. A sample is a signed whole number, 128 units to one grey: 0 is black, 32,640 is grey 255.
  * A picture is width times height samples, row by row; columns count to the right and rows downward,
@@ -21,31 +26,26 @@
  *
  * Buffers. A buffer is a pointer and, after it, its length in places (not in bytes). It may be longer
  * than the call needs: later places stay as they are, and nothing that is answered or written depends on
- * them. The buffers of one call may not overlap. A pointer may be NULL where its length is 0. No
- * function keeps a pointer or any state, so calls on different buffers may run at the same time.
+ * them. What a result or work holds before the call does not matter either. The buffers of one call may
+ * not overlap. A pointer may be NULL where its length is 0. No function keeps a pointer or any state, so
+ * calls on different buffers may run at the same time.
  *
  * Refusals. Every answer that is a struct with a number may be a refusal; number 0 says that the call
- * was accepted. Of several numbers that apply the lowest is answered, but 12 is judged after 5 and
- * before 6, and a line of the line format that is not well-formed is answered with 9. A refused call
- * leaves every buffer untouched, and every figure of its answer but the number is 0, except where it is
- * said otherwise below.
- *
- *   1  width, height or line length is 0 or over 1,024
- *   2  a buffer is too short
- *   3  the centre lies outside the picture
- *   4  a shear, step or move is beyond its range
- *   5  the kernel is none of 0, 1, 2
- *   6  a sample is beyond the call's range; row and column name the first one in row order
- *   7  a point lies outside the picture (levelling: a coordinate is not from 0 to 1,023)
- *   8  the two points of a graticule line do not run to the right, or are steeper than 45 degrees
- *   9  a line of the line format is not well-formed, or has over 4,096 greys
- *  12  the background is beyond +-32,767; never where the border is wrapped
+ * was accepted. Of several numbers that apply, the first in the order that the function names is
+ * answered. A refused call leaves every buffer untouched, and every figure of its answer but the number
+ * is 0, except where it is said otherwise below. A later version may refuse under further numbers.
  */
 #ifndef STRAIGHTENER_H
 #define STRAIGHTENER_H
 
 #include <stddef.h>
 #include <stdint.h>
+
+/* The version of this header, as text and as its parts. */
+#define STRAIGHTENER_VERSION "0.2.0"
+#define STRAIGHTENER_VERSION_MAJOR 0
+#define STRAIGHTENER_VERSION_MINOR 2
+#define STRAIGHTENER_VERSION_PATCH 0
 
 #ifdef __cplusplus
 extern "C" {
@@ -54,17 +54,57 @@ extern "C" {
 /* The refusal numbers. */
 enum {
     STRAIGHTENER_ACCEPTED = 0,
-    STRAIGHTENER_SIZE = 1,
-    STRAIGHTENER_BUFFER = 2,
-    STRAIGHTENER_CENTRE = 3,
-    STRAIGHTENER_SHEAR = 4,
-    STRAIGHTENER_KERNEL = 5,
-    STRAIGHTENER_SAMPLE = 6,
-    STRAIGHTENER_POINT = 7,
-    STRAIGHTENER_SLOPE = 8,
-    STRAIGHTENER_LINE = 9,
-    STRAIGHTENER_BACKGROUND = 12
+    STRAIGHTENER_REFUSED_SIZE = 1,
+    STRAIGHTENER_REFUSED_BUFFER = 2,
+    STRAIGHTENER_REFUSED_CENTRE = 3,
+    STRAIGHTENER_REFUSED_SHEAR = 4,
+    STRAIGHTENER_REFUSED_KERNEL = 5,
+    STRAIGHTENER_REFUSED_SAMPLE = 6,
+    STRAIGHTENER_REFUSED_POINT = 7,
+    STRAIGHTENER_REFUSED_SLOPE = 8,
+    STRAIGHTENER_REFUSED_LINE = 9,
+    STRAIGHTENER_REFUSED_BACKGROUND = 12
 };
+
+/*
+ * What a refusal number says, in words for the person at the keyboard. Any number is taken; the text
+ * stays as long as the program runs.
+ */
+static inline const char *straightener_words(uint32_t number)
+{
+    switch (number) {
+    case STRAIGHTENER_ACCEPTED:
+        return "accepted";
+    case STRAIGHTENER_REFUSED_SIZE:
+        return "width, height and line length must be from 1 to 1,024";
+    case STRAIGHTENER_REFUSED_BUFFER:
+        return "a buffer is too short: a picture, result or output takes width x height places, a line its "
+               "length, work its work places, and the answer to a line all of its bytes";
+    case STRAIGHTENER_REFUSED_CENTRE:
+        return "the centre lies outside the picture: its column must be below the width and its row below the "
+               "height";
+    case STRAIGHTENER_REFUSED_SHEAR:
+        return "a shear must be from -4,096 to 4,096, a step from -1,697 to 1,697, and the move of a line from "
+               "-4,194,304 to 4,194,304";
+    case STRAIGHTENER_REFUSED_KERNEL:
+        return "the kernel must be 0 (linear), 1 (Keys) or 2 (cubic spline)";
+    case STRAIGHTENER_REFUSED_SAMPLE:
+        return "a sample lies beyond its range, which is 32,767 units to either side of 0 for straightening, "
+               "294,912 for a single line and 1,048,576 for readings";
+    case STRAIGHTENER_REFUSED_POINT:
+        return "the point lies outside the picture; for levelling, coordinates must be from 0 to 1,023";
+    case STRAIGHTENER_REFUSED_SLOPE:
+        return "the second point must lie to the right of the first, and no steeper than 45 degrees from it";
+    case STRAIGHTENER_REFUSED_LINE:
+        return "the line must be upper-case hexadecimal digits and nothing else: 22, then 2 for each of its "
+               "width x height greys, at most 4,096 greys";
+    case STRAIGHTENER_REFUSED_BACKGROUND:
+        return "the background must be a sample from -32,767 to 32,767, 128 units to one grey; a wrapped border "
+               "has none";
+    default:
+        return "a number that this header has no words for";
+    }
+}
 
 /* The kernels: triangle, Keys' cubic convolution with a = -1/2, cubic spline. */
 enum { STRAIGHTENER_LINEAR = 0, STRAIGHTENER_KEYS = 1, STRAIGHTENER_SPLINE = 2 };
@@ -168,9 +208,9 @@ typedef struct {
  *   picture        at least width * height places; samples within +-32,767
  *   result         at least width * height places; so many receive the straightened picture, whose
  *                  samples may lie beyond +-32,767 but never beyond the +-1,048,576 of the readings
- *   work           at least 12 * max(width, height) places; so many are 0 afterwards, under either border
- * Refuses under 1, 2, 3, 4, 5, 12, 6, the first of these that applies. The count is at most
- * 2 * (height - 1) + (width - 1).
+ *   work           at least straightener_work_places(width, height) places; so many are 0 afterwards,
+ *                  under either border
+ * Refuses under 1, 2, 3, 4, 5, 12, 6. The count is at most 2 * (height - 1) + (width - 1).
  * Under either border no sample of the result lies further from the same three passes in exact fractions
  * than 3/2 units (kernel 0), 2 units (kernel 1) or 10 units (kernel 2) of 1/128 grey. The result is
  * exact where every line moves by whole samples, and for a picture of one grey whose border is wrapped
@@ -182,6 +222,12 @@ straightener_answer straightener_straighten(size_t width, size_t height, straigh
                                             int32_t *work, size_t work_len);
 
 /*
+ * The places of work that straightener_straighten takes: 12 for each sample of the longer side, or 0 for a
+ * width or height that it refuses. Nothing is refused.
+ */
+size_t straightener_work_places(size_t width, size_t height);
+
+/*
  * Moves one line.
  *   n           samples of the line, 1 to 1,024
  *   kernel      0, 1 or 2
@@ -190,17 +236,24 @@ straightener_answer straightener_straighten(size_t width, size_t height, straigh
  *   background  the background's sample value, in units of 1/128 grey, within +-32,767; ignored where
  *               the border is wrapped
  *   line        at least n places; samples within +-294,912
- *   result      at least n places; so many receive the moved line
- *   work        at least 6 * n places; so many are 0 afterwards, under either border
- * Refuses under 1, 2, 4, 5, 12, 6 (row 0), the first of these that applies. The count is 1 if the line
- * was interpolated, 0 if it moved by whole samples or, on background, by n samples or more either way,
- * which makes it all background.
+ *   result      at least n places; so many receive the moved line, whose samples may lie beyond
+ *               +-294,912 where Keys or the spline overshoots
+ *   work        at least straightener_line_work_places(n) places; so many are 0 afterwards, under either
+ *               border
+ * Refuses under 1, 2, 4, 5, 12, 6 (with row 0). The count is 1 if the line was interpolated, 0 if it moved
+ * by whole samples or, on background, by n samples or more either way, which makes it all background.
  */
 straightener_answer straightener_move_line(size_t n, uint32_t kernel, int32_t d,
                                            uint32_t border, int32_t background,
                                            const int32_t *line, size_t line_len,
                                            int32_t *result, size_t result_len,
                                            int32_t *work, size_t work_len);
+
+/*
+ * The places of work that straightener_move_line takes: 6 for each of the n samples, or 0 for an n that it
+ * refuses. Nothing is refused.
+ */
+size_t straightener_line_work_places(size_t n);
 
 /*
  * The setting with one part changed, to what is handed in, and the others kept. Nothing is refused.
@@ -235,7 +288,7 @@ straightener_step straightener_sine(int32_t t);
  * The step that levels the graticule line through two points on it.
  *   x1, y1  column and row of the left point, each from 0 to 1,023
  *   x2, y2  column and row of the right point, each from 0 to 1,023
- * Refuses under 7, and under 8 where x2 - x1 is below 1 or |y2 - y1| is above it.
+ * Refuses under 7, 8; 8 is where x2 - x1 is below 1 or |y2 - y1| is above it, which is 45 degrees.
  */
 straightener_step straightener_level(int32_t x1, int32_t y1, int32_t x2, int32_t y2);
 
@@ -266,7 +319,8 @@ straightener_answer straightener_floats_out(size_t width, size_t height,
  *   width, height  1 to 1,024
  *   column, row    the point; column below the width, row below the height
  *   picture        at least width * height places; samples within +-1,048,576
- * Refuses under 1, 2, 6, 7. A refused reading is Level 0.
+ * Refuses under 1, 2, 6, 7. A refused reading is Level 0. Every sample of the picture is judged, also
+ * those beside the point.
  */
 straightener_reading_answer straightener_reading(size_t width, size_t height, size_t column, size_t row,
                                                  const int32_t *picture, size_t picture_len);
@@ -286,10 +340,10 @@ straightener_summary_answer straightener_summary(size_t width, size_t height,
  *           (two's complement), width, height, cx, cy 4 each, then 2 digits for each of width * height
  *           greys, at most 4,096
  *   answer  receives the answer with its line feed: 00, count 4 digits, width 4, height 4 and 8 digits
- *           a sample (two's complement), or the refusal number 2, row 4 and column 4 digits
+ *           a sample (two's complement); or, refused, the number in 2 digits, row in 4, column in 4
  * Refuses under 2 where the answer is longer than answer_len; STRAIGHTENER_LONGEST_ANSWER places always
- * suffice. A line that is refused is answered all the same, under number 0: its own number, one of 1, 3,
- * 4, 5 and 9, stands in the answer's text.
+ * suffice. A line that is refused is answered all the same, under number 0: its own number stands in the
+ * answer's text, 9 for a line that is not well-formed, else the first of 1, 3, 4, 5 that applies.
  */
 straightener_line_answer straightener_answer_line(const uint8_t *line, size_t line_len,
                                                   uint8_t *answer, size_t answer_len);

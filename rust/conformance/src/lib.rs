@@ -1,0 +1,89 @@
+//! What the tests share: the proved library and the second implementation behind one trait, a generator of
+//! numbers, and the vector files.
+
+pub mod c;
+pub mod calls;
+pub mod files;
+pub mod install;
+pub mod level;
+#[cfg(feature = "library")]
+mod library;
+pub mod numbers;
+mod second;
+pub mod tables;
+
+use calls::LineCall;
+#[cfg(feature = "library")]
+pub use library::{raw_setting, Library};
+use reference::second::{Border, Setting};
+pub use second::Second;
+
+/// What the document says of an answer: number, row, column and count.
+#[derive(Clone, Copy, Debug, PartialEq, Eq)]
+pub struct Answer {
+    pub number: u32,
+    pub row: usize,
+    pub column: usize,
+    pub count: u32,
+}
+
+impl Answer {
+    /// An accepted call's answer.
+    pub fn accepted(count: u32) -> Answer {
+        Answer::of(0, 0, 0, count)
+    }
+
+    /// The answer of a refusal that names no sample.
+    pub fn refused(number: u32) -> Answer {
+        Answer::of(number, 0, 0, 0)
+    }
+
+    /// An answer from its four figures.
+    pub fn of(number: u32, row: usize, column: usize, count: u32) -> Answer {
+        Answer { number, row, column, count }
+    }
+}
+
+/// The public calls of documents 01 and 02. Floats are compared by their bits, so they are answered as such.
+pub trait Implementation {
+    fn straighten(
+        &self,
+        size: (usize, usize),
+        setting: Setting,
+        picture: &[i32],
+        result: &mut [i32],
+        work: &mut [i32],
+    ) -> Answer;
+    fn move_line(&self, call: &LineCall, result: &mut [i32], work: &mut [i32]) -> Answer;
+    fn work_places(&self, size: (usize, usize)) -> usize;
+    fn line_work_places(&self, n: usize) -> usize;
+    fn with_kernel(&self, setting: Setting, kernel: u32) -> Setting;
+    fn with_centre(&self, setting: Setting, cx: usize, cy: usize) -> Setting;
+    fn with_shears(&self, setting: Setting, a: i32, b: i32) -> Setting;
+    fn with_border(&self, setting: Setting, border: Border) -> Setting;
+    fn with_step(&self, setting: Setting, t: i32) -> (u32, Setting);
+    fn sine(&self, t: i32) -> (u32, i32);
+    fn level(&self, x1: i32, y1: i32, x2: i32, y2: i32) -> (u32, i32);
+    fn greys_out(&self, size: (usize, usize), picture: &[i32], greys: &mut [u8]) -> Answer;
+    fn floats_out(&self, size: (usize, usize), picture: &[i32], floats: &mut [f32]) -> Answer;
+    /// The answer, the case (0 Level, 1 Under, 2 Over) and the bits of its greys.
+    fn reading(&self, size: (usize, usize), column: usize, row: usize, picture: &[i32])
+        -> (Answer, u32, u32);
+    /// The answer and the bits of the darkest and the lightest grey.
+    fn summary(&self, size: (usize, usize), picture: &[i32]) -> (Answer, u32, u32);
+    fn answer_line(&self, line: &[u8]) -> Vec<u8>;
+}
+
+/// Makes a test of each named check, for the second implementation and, where it is linked, for the library.
+#[macro_export]
+macro_rules! for_both_implementations {
+    ($($check:ident),+ $(,)?) => {
+        mod second_implementation {
+            $(#[test] fn $check() { super::$check(&$crate::Second) })+
+        }
+        #[cfg(feature = "library")]
+        mod library {
+            $(#[test] fn $check() { super::$check(&$crate::Library) })+
+        }
+    };
+}

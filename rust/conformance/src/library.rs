@@ -1,0 +1,125 @@
+//! The proved library as one of the implementations.
+
+use crate::calls::LineCall;
+use crate::{Answer, Implementation};
+use reference::second::{Border, Setting};
+use straightener::raw;
+
+/// The proved library.
+pub struct Library;
+
+impl From<raw::Answer> for Answer {
+    fn from(answer: raw::Answer) -> Answer {
+        Answer::of(answer.number, answer.row, answer.column, answer.count)
+    }
+}
+
+/// The library's form of a setting.
+pub fn raw_setting(setting: Setting) -> raw::Setting {
+    let Setting { kernel, cx, cy, a, b, border } = setting;
+    let (border, background) = raw_border(border);
+    raw::Setting { kernel, cx, cy, a, b, border, background }
+}
+
+/// The library's form of a border.
+fn raw_border(border: Border) -> (u32, i32) {
+    match border {
+        Border::Wrapped => (0, 0),
+        Border::Background(value) => (1, value),
+    }
+}
+
+/// The second implementation's form of a setting.
+fn plain_setting(setting: raw::Setting) -> Setting {
+    let raw::Setting { kernel, cx, cy, a, b, border, background } = setting;
+    let border = if border == 0 { Border::Wrapped } else { Border::Background(background) };
+    Setting { kernel, cx, cy, a, b, border }
+}
+
+impl Implementation for Library {
+    fn straighten(
+        &self,
+        (width, height): (usize, usize),
+        setting: Setting,
+        picture: &[i32],
+        result: &mut [i32],
+        work: &mut [i32],
+    ) -> Answer {
+        raw::straighten(width, height, raw_setting(setting), picture, result, work).into()
+    }
+
+    fn move_line(&self, call: &LineCall, result: &mut [i32], work: &mut [i32]) -> Answer {
+        let &LineCall { n, kernel, d, ref line, .. } = call;
+        let (border, background) = raw_border(call.border);
+        raw::move_line(n, kernel, d, border, background, line, result, work).into()
+    }
+
+    fn work_places(&self, (width, height): (usize, usize)) -> usize {
+        raw::work_places(width, height)
+    }
+
+    fn line_work_places(&self, n: usize) -> usize {
+        raw::line_work_places(n)
+    }
+
+    fn with_kernel(&self, setting: Setting, kernel: u32) -> Setting {
+        plain_setting(raw::with_kernel(raw_setting(setting), kernel))
+    }
+
+    fn with_centre(&self, setting: Setting, cx: usize, cy: usize) -> Setting {
+        plain_setting(raw::with_centre(raw_setting(setting), cx, cy))
+    }
+
+    fn with_shears(&self, setting: Setting, a: i32, b: i32) -> Setting {
+        plain_setting(raw::with_shears(raw_setting(setting), a, b))
+    }
+
+    fn with_border(&self, setting: Setting, border: Border) -> Setting {
+        let (border, background) = raw_border(border);
+        plain_setting(raw::with_border(raw_setting(setting), border, background))
+    }
+
+    fn with_step(&self, setting: Setting, t: i32) -> (u32, Setting) {
+        let change = raw::with_step(raw_setting(setting), t);
+        (change.number, plain_setting(change.setting))
+    }
+
+    fn sine(&self, t: i32) -> (u32, i32) {
+        let step = raw::sine(t);
+        (step.number, step.value)
+    }
+
+    fn level(&self, x1: i32, y1: i32, x2: i32, y2: i32) -> (u32, i32) {
+        let step = raw::level(x1, y1, x2, y2);
+        (step.number, step.value)
+    }
+
+    fn greys_out(&self, (width, height): (usize, usize), picture: &[i32], greys: &mut [u8]) -> Answer {
+        raw::greys_out(width, height, picture, greys).into()
+    }
+
+    fn floats_out(&self, (width, height): (usize, usize), picture: &[i32], floats: &mut [f32]) -> Answer {
+        raw::floats_out(width, height, picture, floats).into()
+    }
+
+    fn reading(
+        &self,
+        (width, height): (usize, usize),
+        column: usize,
+        row: usize,
+        picture: &[i32],
+    ) -> (Answer, u32, u32) {
+        let read = raw::reading(width, height, column, row, picture);
+        (Answer::of(read.number, read.row, read.column, 0), read.kind, read.greys.to_bits())
+    }
+
+    fn summary(&self, (width, height): (usize, usize), picture: &[i32]) -> (Answer, u32, u32) {
+        let summary = raw::summary(width, height, picture);
+        let answer = Answer::of(summary.number, summary.row, summary.column, 0);
+        (answer, summary.darkest.to_bits(), summary.lightest.to_bits())
+    }
+
+    fn answer_line(&self, line: &[u8]) -> Vec<u8> {
+        straightener::answer_line(line).expect("the longest answer has room")
+    }
+}

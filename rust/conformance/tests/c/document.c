@@ -1,0 +1,291 @@
+/*
+ * Calls every function of straightener.h on the examples of document 01 and on a few of its own, and ends
+ * with status 1 if one of them answers something else.
+ */
+#include "straightener.h"
+
+#include <stdio.h>
+#include <string.h>
+
+/* What an untouched place of a buffer holds. */
+#define UNTOUCHED 12345
+
+static int differences = 0;
+
+/* Notes a difference by the place in this file where it was found. */
+static void expect_at(int holds, int line)
+{
+    if (!holds) {
+        printf("line %d: not as documented\n", line);
+        differences = 1;
+    }
+}
+#define expect(holds) expect_at(holds, __LINE__)
+
+/* The place of an accepted call's answer is 0, 0. */
+static int is(straightener_answer answer, uint32_t number, size_t row, size_t column, uint32_t count)
+{
+    return answer.number == number && answer.row == row && answer.column == column && answer.count == count;
+}
+
+static void fill(int32_t *buffer, size_t length)
+{
+    size_t k;
+    for (k = 0; k < length; k++)
+        buffer[k] = UNTOUCHED;
+}
+
+static int all(const int32_t *buffer, size_t first, size_t end, int32_t value)
+{
+    size_t k;
+    for (k = first; k < end; k++)
+        if (buffer[k] != value)
+            return 0;
+    return 1;
+}
+
+struct line_example {
+    uint32_t kernel;
+    int32_t d;
+    size_t n;
+    int32_t line[4];
+    int32_t moved[4];
+};
+
+static const struct line_example examples[] = {
+    {0, 2048, 2, {0, 10}, {5, 5}},
+    {0, 2048, 2, {0, 1}, {1, 1}},
+    {0, 2048, 2, {0, -1}, {0, 0}},
+    {0, 1024, 4, {0, 0, 16, 0}, {0, 0, 12, 4}},
+    {0, -1, 3, {0, 4096, 0}, {1, 4095, 0}},
+    {0, 1, 3, {0, 4096, 0}, {0, 4095, 1}},
+    {1, -2048, 4, {0, 0, 16, 0}, {-1, 9, 9, -1}},
+    {2, 2048, 2, {0, 6}, {3, 3}},
+    {0, 4096, 4, {1, 2, 3, 4}, {4, 1, 2, 3}},
+    {1, 4096, 4, {1, 2, 3, 4}, {4, 1, 2, 3}},
+    {2, 4096, 4, {1, 2, 3, 4}, {4, 1, 2, 3}},
+    {0, 1, 1, {7}, {7}},
+    {1, 1, 1, {7}, {7}},
+    {2, 1, 1, {7}, {7}},
+};
+
+static void lines(void)
+{
+    size_t i, count = sizeof examples / sizeof examples[0];
+    for (i = 0; i < count; i++) {
+        const struct line_example *e = &examples[i];
+        int32_t result[6], work[30];
+        size_t places = straightener_line_work_places(e->n);
+        straightener_answer answer;
+        fill(result, 6);
+        fill(work, 30);
+        /* A wrapped line never looks at the background. */
+        answer = straightener_move_line(e->n, e->kernel, e->d, STRAIGHTENER_WRAPPED, INT32_MIN,
+                                        e->line, e->n, result, 6, work, 30);
+        expect(is(answer, STRAIGHTENER_ACCEPTED, 0, 0, e->d % 4096 != 0));
+        expect(memcmp(result, e->moved, e->n * sizeof result[0]) == 0);
+        expect(all(result, e->n, 6, UNTOUCHED));
+        expect(places == 6 * e->n && all(work, 0, places, 0) && all(work, places, 30, UNTOUCHED));
+    }
+    printf("lines: %zu as the document has them\n", count);
+}
+
+static void work_places(void)
+{
+    expect(straightener_work_places(3, 2) == 36 && straightener_work_places(2, 3) == 36);
+    expect(straightener_work_places(1, 1) == 12 && straightener_work_places(1, 1024) == 12288);
+    expect(straightener_work_places(0, 1) == 0 && straightener_work_places(1, 0) == 0);
+    expect(straightener_work_places(1025, 1) == 0 && straightener_work_places(1, SIZE_MAX) == 0);
+    expect(straightener_line_work_places(1024) == 6144 && straightener_line_work_places(1025) == 0);
+    expect(straightener_line_work_places(0) == 0 && straightener_line_work_places(SIZE_MAX) == 0);
+    printf("work places: %zu for 640 by 480, %zu for a line of 640\n", straightener_work_places(640, 480),
+           straightener_line_work_places(640));
+}
+
+static void pictures(void)
+{
+    const int32_t nine[9] = {1, 2, 3, 4, 5, 6, 7, 8, 9}, four[4] = {0, 10, 0, 10};
+    straightener_setting turn = {STRAIGHTENER_KEYS, 1, 1, -4096, 4096, STRAIGHTENER_WRAPPED, 0};
+    straightener_setting shear = {STRAIGHTENER_LINEAR, 0, 0, 2048, 0, STRAIGHTENER_WRAPPED, 0};
+    int32_t r[9], s[4], work[36];
+    straightener_answer turned = straightener_straighten(3, 3, turn, nine, 9, r, 9, work, 36);
+    straightener_answer sheared = straightener_straighten(2, 2, shear, four, 4, s, 4, work, 36);
+    expect(turned.number == 0 && sheared.number == 0 && all(work, 0, 36, 0));
+    printf("pictures: %d%d%d %d%d%d %d%d%d, count %u; %d %d %d %d, count %u\n", (int)r[0], (int)r[1], (int)r[2],
+           (int)r[3], (int)r[4], (int)r[5], (int)r[6], (int)r[7], (int)r[8], (unsigned)turned.count,
+           (int)s[0], (int)s[1], (int)s[2], (int)s[3], (unsigned)sheared.count);
+}
+
+struct background_example {
+    uint32_t kernel;
+    int32_t d;
+    uint32_t border;
+    int32_t background;
+    uint32_t count;
+    int32_t moved[4];
+};
+
+/* What the line 0 0 16 0 becomes on background. */
+static const struct background_example backgrounds[] = {
+    {STRAIGHTENER_KEYS, -2048, STRAIGHTENER_ON_BACKGROUND, 100, 1, {-7, 9, 3, 49}},
+    {STRAIGHTENER_KEYS, -2048, UINT32_MAX, 100, 1, {-7, 9, 3, 49}},
+    {STRAIGHTENER_LINEAR, 8192, STRAIGHTENER_ON_BACKGROUND, -5, 0, {-5, -5, 0, 0}},
+    {STRAIGHTENER_SPLINE, -4096, STRAIGHTENER_ON_BACKGROUND, 32767, 0, {0, 16, 0, 32767}},
+    {STRAIGHTENER_LINEAR, -16383, STRAIGHTENER_ON_BACKGROUND, -4096, 1, {-4095, -4096, -4096, -4096}},
+    {STRAIGHTENER_SPLINE, 16384, STRAIGHTENER_ON_BACKGROUND, -32767, 0, {-32767, -32767, -32767, -32767}},
+    {STRAIGHTENER_KEYS, -4194303, STRAIGHTENER_ON_BACKGROUND, 9, 0, {9, 9, 9, 9}},
+};
+
+static void on_background(void)
+{
+    const int32_t line[4] = {0, 0, 16, 0}, picture[8] = {10, 20, 30, 90, 10, 20, 30, 90};
+    straightener_setting shear = {STRAIGHTENER_SPLINE, 0, 0, 4096, 0, STRAIGHTENER_WRAPPED, 0};
+    int32_t r[8], work[48];
+    size_t i, count = sizeof backgrounds / sizeof backgrounds[0];
+    for (i = 0; i < count; i++) {
+        const struct background_example *e = &backgrounds[i];
+        straightener_answer answer;
+        fill(r, 8);
+        fill(work, 48);
+        answer = straightener_move_line(4, e->kernel, e->d, e->border, e->background, line, 4, r, 8, work, 48);
+        expect(is(answer, STRAIGHTENER_ACCEPTED, 0, 0, e->count));
+        expect(memcmp(r, e->moved, sizeof e->moved) == 0 && all(r, 4, 8, UNTOUCHED));
+        expect(all(work, 0, 24, 0) && all(work, 24, 48, UNTOUCHED));
+    }
+    fill(r, 8);
+    expect(is(straightener_straighten(4, 2, shear, picture, 8, r, 8, work, 48), 0, 0, 0, 0));
+    printf("lower row: wrapped %d %d %d %d", (int)r[4], (int)r[5], (int)r[6], (int)r[7]);
+    shear = straightener_with_border(shear, STRAIGHTENER_ON_BACKGROUND, -1);
+    fill(work, 48);
+    expect(is(straightener_straighten(4, 2, shear, picture, 8, r, 8, work, 48), 0, 0, 0, 0));
+    expect(memcmp(r, picture, 4 * sizeof r[0]) == 0 && all(work, 0, 48, 0));
+    printf(", on background %d %d %d %d\n", (int)r[4], (int)r[5], (int)r[6], (int)r[7]);
+}
+
+static void refusals(void)
+{
+    const int32_t picture[6] = {0, 1, 2, 3, 32768, 5};
+    straightener_setting setting = {STRAIGHTENER_SPLINE, 2, 1, 4096, -4096, STRAIGHTENER_WRAPPED, 0};
+    int32_t r[6], work[36];
+    uint8_t answer[11];
+    straightener_answer sample = straightener_straighten(3, 2, setting, picture, 6, r, 6, work, 36);
+    unsigned n[32];
+    fill(r, 6);
+    fill(work, 36);
+    n[6] = straightener_straighten(3, 2, setting, picture, 6, r, 6, work, 36).number;
+    expect(is(sample, STRAIGHTENER_REFUSED_SAMPLE, 1, 1, 0));
+    setting = straightener_with_border(setting, STRAIGHTENER_ON_BACKGROUND, -32768);
+    n[12] = straightener_straighten(3, 2, setting, picture, 6, r, 6, work, 36).number;
+    expect(straightener_move_line(6, 0, 0, 1, 32768, picture, 6, r, 6, work, 36).number == STRAIGHTENER_REFUSED_BACKGROUND);
+    expect(straightener_move_line(6, 3, 0, 1, 32768, picture, 6, r, 6, work, 36).number == STRAIGHTENER_REFUSED_KERNEL);
+    setting.kernel = 3;
+    n[5] = straightener_straighten(3, 2, setting, picture, 6, r, 6, work, 36).number;
+    setting.a = 4097;
+    n[4] = straightener_straighten(3, 2, setting, picture, 6, r, 6, work, 36).number;
+    setting.cx = 3;
+    n[3] = straightener_straighten(3, 2, setting, picture, 6, r, 6, work, 36).number;
+    n[2] = straightener_straighten(3, 2, setting, NULL, 0, r, 6, work, 36).number;
+    expect(straightener_straighten(3, 2, setting, picture, 6, r, 6, work, 35).number == STRAIGHTENER_REFUSED_BUFFER);
+    expect(straightener_move_line(6, 0, 0, 0, 0, picture, 6, r, 6, work, 35).number == STRAIGHTENER_REFUSED_BUFFER);
+    n[1] = straightener_straighten(1025, 2, setting, NULL, 0, NULL, 0, NULL, 0).number;
+    n[7] = straightener_level(0, 0, 1024, 0).number;
+    n[8] = straightener_level(10, 0, 10, 0).number;
+    expect(straightener_answer_line((const uint8_t *)"junk", 4, answer, 11).written == 11);
+    n[9] = (unsigned)(answer[1] - '0');
+    expect(all(r, 0, 6, UNTOUCHED) && all(work, 0, 36, UNTOUCHED));
+    printf("refusals: %u %u %u %u %u %u %u %u %u %u\n", n[1], n[2], n[3], n[4], n[5], n[6], n[7], n[8], n[9], n[12]);
+}
+
+/* Whether a setting has these five parts, and the border 8 with background INT32_MIN. */
+static int set(straightener_setting s, uint32_t kernel, size_t cx, size_t cy, int32_t a, int32_t b)
+{
+    return s.kernel == kernel && s.cx == cx && s.cy == cy && s.a == a && s.b == b && s.border == 8 &&
+           s.background == INT32_MIN;
+}
+
+static void settings(void)
+{
+    straightener_setting s = {STRAIGHTENER_KEYS, 3, 4, -5, 6, 0, 0};
+    s = straightener_with_border(s, 8, INT32_MIN);
+    expect(set(s, 1, 3, 4, -5, 6));
+    s = straightener_with_border(straightener_with_border(s, 0, 17), 8, INT32_MIN);
+    expect(set(s, 1, 3, 4, -5, 6));
+    expect(set(straightener_with_kernel(s, STRAIGHTENER_SPLINE), 2, 3, 4, -5, 6));
+    expect(set(straightener_with_kernel(s, UINT32_MAX), UINT32_MAX, 3, 4, -5, 6));
+    expect(set(straightener_with_centre(s, 320, 240), 1, 320, 240, -5, 6));
+    expect(set(straightener_with_centre(s, SIZE_MAX, 0), 1, SIZE_MAX, 0, -5, 6));
+    expect(set(straightener_with_centre(s, 0, SIZE_MAX), 1, 0, SIZE_MAX, -5, 6));
+    expect(set(straightener_with_shears(s, 4096, -4096), 1, 3, 4, 4096, -4096));
+    expect(set(straightener_with_shears(s, INT32_MIN, INT32_MAX), 1, 3, 4, INT32_MIN, INT32_MAX));
+    s = straightener_with_kernel(straightener_with_centre(straightener_with_shears(s, 7, 8), 9, 10), 0);
+    s = straightener_with_kernel(straightener_with_centre(straightener_with_shears(s, 11, 12), 13, 14), 2);
+    expect(set(s, 2, 13, 14, 11, 12));
+    s = straightener_with_border(s, STRAIGHTENER_ON_BACKGROUND, -15);
+    printf("settings: kernel %u, column %zu, row %zu, shears %d and %d, border %u of %d\n", (unsigned)s.kernel,
+           s.cx, s.cy, (int)s.a, (int)s.b, (unsigned)s.border, (int)s.background);
+}
+
+static void steps(void)
+{
+    straightener_setting setting = {7, SIZE_MAX, 5, -11, 13, 19, INT32_MAX};
+    straightener_change changed = straightener_with_step(setting, 1000);
+    straightener_change kept = straightener_with_step(setting, 1698);
+    expect(changed.number == 0 && changed.setting.kernel == 7 && changed.setting.cx == SIZE_MAX);
+    expect(changed.setting.cy == 5 && changed.setting.a == -1000 && changed.setting.b == 1887);
+    expect(changed.setting.border == 19 && changed.setting.background == INT32_MAX);
+    expect(kept.number == STRAIGHTENER_REFUSED_SHEAR && kept.setting.kernel == 7 && kept.setting.cx == SIZE_MAX);
+    expect(kept.setting.cy == 5 && kept.setting.a == -11 && kept.setting.b == 13);
+    expect(kept.setting.border == 19 && kept.setting.background == INT32_MAX);
+    expect(straightener_sine(-1697).value == -2897 && straightener_sine(-1698).number == STRAIGHTENER_REFUSED_SHEAR);
+    printf("steps: S(1) = %d, S(1000) = %d, S(1697) = %d\n", (int)straightener_sine(1).value,
+           (int)straightener_sine(1000).value, (int)straightener_sine(1697).value);
+    printf("levelling: %d, %d\n", (int)straightener_level(0, 0, 100, 1).value,
+           (int)straightener_level(0, 0, 1000, 1000).value);
+}
+
+static void readings(void)
+{
+    const int32_t picture[3] = {-64, 128, 32768};
+    uint8_t greys[4] = {9, 9, 9, 9};
+    float floats[4] = {9, 9, 9, 9};
+    straightener_reading_answer under = straightener_reading(3, 1, 0, 0, picture, 3);
+    straightener_reading_answer level = straightener_reading(3, 1, 1, 0, picture, 3);
+    straightener_reading_answer over = straightener_reading(3, 1, 2, 0, picture, 3);
+    straightener_reading_answer outside = straightener_reading(3, 1, 3, 0, picture, 3);
+    straightener_summary_answer summary = straightener_summary(3, 1, picture, 3);
+    expect(under.kind == STRAIGHTENER_UNDER && level.kind == STRAIGHTENER_LEVEL && over.kind == STRAIGHTENER_OVER);
+    expect(outside.number == STRAIGHTENER_REFUSED_POINT && outside.kind == STRAIGHTENER_LEVEL && outside.greys == 0);
+    expect(is(straightener_greys_out(3, 1, picture, 3, greys, 4), 0, 0, 0, 0));
+    expect(is(straightener_floats_out(3, 1, picture, 3, floats, 4), 0, 0, 0, 0));
+    expect(greys[0] == 0 && greys[1] == 1 && greys[2] == 255 && greys[3] == 9);
+    expect(floats[0] == -0.5f && floats[1] == 1 && floats[2] == 256 && floats[3] == 9);
+    printf("readings: Under %g, Level %g, Over %g; darkest %g, lightest %g\n", (double)under.greys,
+           (double)level.greys, (double)over.greys, (double)summary.darkest, (double)summary.lightest);
+}
+
+static void line_format(void)
+{
+    const char *line = "000000000100010000000080";
+    static uint8_t answer[STRAIGHTENER_LONGEST_ANSWER];
+    straightener_line_answer fits = straightener_answer_line((const uint8_t *)line, strlen(line), answer, sizeof answer);
+    expect(fits.number == STRAIGHTENER_ACCEPTED && fits.written == 23 && answer[22] == '\n');
+    straightener_line_answer cut = straightener_answer_line((const uint8_t *)line, strlen(line), answer, 22);
+    expect(cut.number == STRAIGHTENER_REFUSED_BUFFER && cut.written == 0);
+    printf("line format: %.*s", (int)fits.written, (const char *)answer);
+}
+
+int main(void)
+{
+    lines();
+    work_places();
+    pictures();
+    on_background();
+    refusals();
+    settings();
+    steps();
+    readings();
+    line_format();
+    if (differences == 0)
+        printf("all as documented\n");
+    return differences;
+}

@@ -1,0 +1,48 @@
+/* Prints the size of every struct of straightener.h and the place of each of its fields, a line each. */
+#include "straightener.h"
+
+#include <stddef.h>
+#include <stdio.h>
+
+#define SIZE(name, type) printf("%s %zu", name, sizeof(type))
+#define FIELD(type, field) printf(" %s %zu", #field, offsetof(type, field))
+
+int main(void)
+{
+    SIZE("Setting", straightener_setting);
+    FIELD(straightener_setting, kernel);
+    FIELD(straightener_setting, cx);
+    FIELD(straightener_setting, cy);
+    FIELD(straightener_setting, a);
+    FIELD(straightener_setting, b);
+    FIELD(straightener_setting, border);
+    FIELD(straightener_setting, background);
+    SIZE("\nAnswer", straightener_answer);
+    FIELD(straightener_answer, number);
+    FIELD(straightener_answer, row);
+    FIELD(straightener_answer, column);
+    FIELD(straightener_answer, count);
+    SIZE("\nChange", straightener_change);
+    FIELD(straightener_change, number);
+    FIELD(straightener_change, setting);
+    SIZE("\nStep", straightener_step);
+    FIELD(straightener_step, number);
+    FIELD(straightener_step, value);
+    SIZE("\nReadingAnswer", straightener_reading_answer);
+    FIELD(straightener_reading_answer, number);
+    FIELD(straightener_reading_answer, row);
+    FIELD(straightener_reading_answer, column);
+    FIELD(straightener_reading_answer, kind);
+    FIELD(straightener_reading_answer, greys);
+    SIZE("\nLineAnswer", straightener_line_answer);
+    FIELD(straightener_line_answer, number);
+    FIELD(straightener_line_answer, written);
+    SIZE("\nSummaryAnswer", straightener_summary_answer);
+    FIELD(straightener_summary_answer, number);
+    FIELD(straightener_summary_answer, row);
+    FIELD(straightener_summary_answer, column);
+    FIELD(straightener_summary_answer, darkest);
+    FIELD(straightener_summary_answer, lightest);
+    printf("\n");
+    return 0;
+}

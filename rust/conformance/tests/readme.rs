@@ -1,0 +1,51 @@
+//! The programs that README shows, made and run as it says.
+#![cfg(feature = "library")]
+
+use conformance::c::{done, WARNINGS};
+use conformance::files::{in_repository, read, Temporary};
+use conformance::install::{flags, make};
+use std::fs;
+use std::process::Command;
+
+/// The program in a language that a text shows.
+fn program<'a>(text: &'a str, language: &str) -> &'a str {
+    let shown = text.split(&format!("```{language}\n")).nth(1).expect("a program");
+    shown.split("```").next().expect("its end")
+}
+
+/// The line of a text that begins like this, without its indentation.
+fn line<'a>(text: &'a str, begin: &str) -> &'a str {
+    text.lines().map(str::trim).find(|line| line.starts_with(begin)).expect("a line of README")
+}
+
+#[test]
+fn the_c_program_by_its_link_line() {
+    let (readme, folder) = (read("README.md"), Temporary::new("readme-c"));
+    done(&mut make("install", &folder.path("")));
+    fs::write(folder.path("program.c"), program(&readme, "c")).expect("the program can be written");
+    let link = line(&readme, "cc -o program program.c $(pkg-config");
+    let (compiler, _) = link.split_once(" $").expect("pkg-config");
+    let mut words = compiler.split_whitespace();
+    // The link line with its flags put in, and every warning an error.
+    let mut compiler = Command::new(words.next().expect("a compiler"));
+    done(compiler.args(words).args(WARNINGS).args(flags(&folder.path(""))).current_dir(folder.path("")));
+    let printed = done(&mut Command::new(folder.path("program")));
+    let (_, expected) = line(&readme, "./program").split_once("# ").expect("what it prints");
+    assert_eq!(printed.trim_end(), expected);
+}
+
+#[test]
+fn the_rust_program_as_a_package() {
+    let (readme, folder) = (read("README.md"), Temporary::new("readme-rust"));
+    let clone = in_repository(".").canonicalize().expect("the repository's folder");
+    let dependency = line(&readme, "straightener = ").replace("feverfewnook", &clone.display().to_string());
+    let package = "[package]\nname = \"program\"\nversion = \"0.1.0\"\nedition = \"2021\"\n";
+    let manifest = format!("{package}\n[dependencies]\n{dependency}\n\n[workspace]\n");
+    fs::create_dir(folder.path("src")).expect("a folder can be made");
+    fs::write(folder.path("Cargo.toml"), manifest).expect("the manifest can be written");
+    fs::write(folder.path("src/main.rs"), program(&readme, "rust")).expect("the program can be written");
+    let mut cargo = Command::new(env!("CARGO"));
+    cargo.args(["run", "--quiet", "--offline", "--target-dir", "target"]).current_dir(folder.path(""));
+    let (_, expected) = line(&readme, "cargo run  ").split_once("# ").expect("what it prints");
+    assert_eq!(done(&mut cargo).trim_end(), expected);
+}

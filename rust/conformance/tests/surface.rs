@@ -1,0 +1,141 @@
+//! The surface for C and Rust: functions, constants, structs and the version are the same wherever they stand.
+#![cfg(feature = "library")]
+
+use conformance::c::printed;
+use conformance::files::read;
+use conformance::tables::{calls, numbers, order};
+use std::mem::{offset_of, size_of};
+use straightener::raw;
+
+/// The functions that the header declares, each with the comment before it.
+fn declared() -> Vec<(String, String)> {
+    let header = read("include/straightener.h");
+    let below_the_words = header.split("straightener_words(uint32_t number)").nth(1).expect("the words");
+    let mut functions = Vec::new();
+    for part in below_the_words.split("/*").skip(1) {
+        let (comment, declarations) = part.split_once("*/").expect("a comment ends");
+        let comment = comment.replace("\n *", " ").split_whitespace().collect::<Vec<_>>().join(" ");
+        for before in declarations.split('(').filter(|_| declarations.contains(");")) {
+            let name = before.rsplit([' ', '\n', '*']).next().unwrap_or_default();
+            if name.starts_with("straightener_") {
+                functions.push((name.to_string(), comment.clone()));
+            }
+        }
+    }
+    functions
+}
+
+/// The names that stand between some words and a bracket in a file.
+fn names(path: &str, before: &str) -> Vec<String> {
+    let text = read(path);
+    text.split(before).skip(1).filter_map(|rest| rest.split('(').next()).map(str::to_string).collect()
+}
+
+/// A list in order of the alphabet.
+fn sorted(mut names: Vec<String>) -> Vec<String> {
+    names.sort();
+    names
+}
+
+#[test]
+fn functions() {
+    let header = sorted(declared().into_iter().map(|(name, _)| name).collect());
+    assert_eq!(sorted(names("rust/straightener-sys/src/lib.rs", "pub fn ")), header);
+    assert_eq!(sorted(names("crates/exports/src/lib.rt", "pub extern \"C\" fn ")), header);
+    assert_eq!(sorted(calls().into_iter().flat_map(|call| call.c).collect()), header, "docs/REFUSALS.md");
+    let header_text = read("include/straightener.h");
+    let index = header_text.split("*/").next().expect("a comment").to_string();
+    assert!(header.iter().all(|name| index.contains(name.as_str())), "the header's own list");
+}
+
+#[test]
+fn functions_for_rust() {
+    let safe = ["calls", "readings", "setting"].map(|file| format!("rust/straightener/src/{file}.rs"));
+    let safe: Vec<_> = safe.iter().flat_map(|file| names(file, "pub fn ")).collect();
+    let raw = names("rust/straightener/src/raw.rs", "pub fn ");
+    for name in calls().into_iter().flat_map(|call| call.rust) {
+        assert!(safe.contains(&name) && raw.contains(&name), "{name} is not in both layers for Rust");
+    }
+}
+
+#[test]
+fn orders_in_the_header() {
+    let calls = calls();
+    for (name, comment) in declared() {
+        let call = calls.iter().find(|call| call.c.contains(&name)).expect("a row of docs/REFUSALS.md");
+        let in_list = |c: char| c.is_ascii_digit() || c == ',' || c == ' ';
+        let said = comment.split("Refuses under ").nth(1);
+        let said = said.map(|rest| order(rest.split(|c| !in_list(c)).next().unwrap_or_default()));
+        let nothing = comment.contains("Nothing is refused.").then(Vec::new);
+        assert_eq!(said.or(nothing), Some(call.order.clone()), "what the header says of {name}");
+    }
+}
+
+/// The constants of a text with whole numbers for values, as `STRAIGHTENER_KEYS = 1` or in a `#define`.
+fn constants(text: &str, between: &str) -> Vec<(String, u32)> {
+    let parts = text.split("STRAIGHTENER_").skip(1).filter_map(|part| part.split_once(between));
+    let parts = parts.filter(|(name, _)| name.chars().all(|c| c.is_ascii_uppercase() || c == '_'));
+    let number = |text: &str| text.replace('_', "").split(|c: char| !c.is_ascii_digit()).next()?.parse().ok();
+    parts.filter_map(|(name, value)| Some((name.to_string(), number(value)?))).collect()
+}
+
+#[test]
+fn constants_in_c_and_rust() {
+    let header = read("include/straightener.h");
+    let mut in_c = constants(&header, " = ");
+    in_c.extend(constants(&header, " ").into_iter().filter(|(name, _)| !name.starts_with("VERSION")));
+    let sys = read("rust/straightener-sys/src/lib.rs");
+    let in_rust = [constants(&sys, ": u32 = "), constants(&sys, ": usize = ")].concat();
+    assert_eq!(in_rust, in_c);
+    for row in numbers() {
+        let name = row.c.strip_prefix("STRAIGHTENER_").expect("a name of ours").to_string();
+        assert!(in_c.contains(&(name, row.number)), "{}", row.c);
+    }
+    let refusals = in_c.iter().filter(|(name, _)| name.starts_with("REFUSED_")).count();
+    assert_eq!(refusals, numbers().len());
+}
+
+/// The layout of a struct as `tests/c/layout.c` prints it: its size and the place of each field.
+macro_rules! layout {
+    ($name:ident: $($field:ident)+) => {
+        [
+            format!("{} {}", stringify!($name), size_of::<raw::$name>()),
+            $(format!(" {} {}", stringify!($field), offset_of!(raw::$name, $field)),)+
+        ]
+        .concat()
+    };
+}
+
+#[test]
+fn structs_are_laid_out_alike() {
+    let expected = [
+        layout!(Setting: kernel cx cy a b border background),
+        layout!(Answer: number row column count),
+        layout!(Change: number setting),
+        layout!(Step: number value),
+        layout!(ReadingAnswer: number row column kind greys),
+        layout!(LineAnswer: number written),
+        layout!(SummaryAnswer: number row column darkest lightest),
+    ];
+    assert_eq!(printed("layout.c", "cc", &["-std=c11"]).lines().collect::<Vec<_>>(), expected);
+    let structs = read("include/straightener.h").matches("typedef struct {").count();
+    assert_eq!(structs, expected.len(), "a struct of the header is not held to its layout");
+}
+
+#[test]
+fn one_version() {
+    let version = env!("CARGO_PKG_VERSION");
+    let header = read("include/straightener.h");
+    let lines = header.lines().filter_map(|line| line.strip_prefix("#define STRAIGHTENER_VERSION"));
+    let parts: Vec<_> = version.split('.').collect();
+    let expected = [
+        format!(" \"{version}\""),
+        format!("_MAJOR {}", parts[0]),
+        format!("_MINOR {}", parts[1]),
+        format!("_PATCH {}", parts[2]),
+    ];
+    assert_eq!(lines.collect::<Vec<_>>(), expected);
+    let changes = read("CHANGELOG.md");
+    let newest = changes.lines().find_map(|line| line.strip_prefix("## ")).expect("a newest version");
+    assert_eq!(newest.split(' ').next(), Some(version), "the newest version of CHANGELOG.md");
+}

@@ -1,0 +1,197 @@
+//! Straightening, one line moved, steps and levelling, and the line format.
+
+use crate::raw;
+use crate::refusal::{accepted, Refusal};
+use crate::setting::{Border, Kernel, Setting};
+
+/// What straightening tells beside the picture.
+#[derive(Clone, Copy, Debug, PartialEq, Eq, Hash)]
+#[non_exhaustive]
+pub struct Straightened {
+    /// The number of lines interpolated, those that neither moved by whole samples nor became all
+    /// background; a row that is interpolated in both its passes counts twice.
+    pub count: u32,
+}
+
+/// What moving a line tells beside the line.
+#[derive(Clone, Copy, Debug, PartialEq, Eq, Hash)]
+#[non_exhaustive]
+pub struct Moved {
+    /// Whether the line was interpolated, that is, neither moved by whole samples nor became all background.
+    pub interpolated: bool,
+}
+
+/// The places of work that [`straighten`] takes: 12 for each sample of the longer side, or 0 for a size that
+/// it refuses.
+///
+/// ```
+/// assert_eq!(straightener::work_places(640, 480), 7_680);
+/// assert_eq!(straightener::work_places(640, 1_025), 0);
+/// ```
+pub fn work_places(width: usize, height: usize) -> usize {
+    raw::work_places(width, height)
+}
+
+/// The places of work that [`move_line`] takes: 6 for each sample of the line, or 0 for a length that it
+/// refuses.
+///
+/// ```
+/// assert_eq!(straightener::line_work_places(640), 3_840);
+/// ```
+pub fn line_work_places(length: usize) -> usize {
+    raw::line_work_places(length)
+}
+
+/// Straightens a picture into buffers of the caller's.
+///
+/// `picture` and `result` take width times height places, row by row, and `work` takes
+/// [`work_places`]; samples of the picture lie within plus or minus 32,767, 128 to one grey. What `result`
+/// and `work` hold before does not matter; afterwards those places of `work` are 0. Longer buffers are
+/// fine: their later places stay as they are.
+///
+/// Refused with [`Refusal::Size`], [`Refusal::Buffer`], [`Refusal::Centre`], [`Refusal::Shear`],
+/// [`Refusal::Background`] or [`Refusal::Sample`], the first of them that applies; then no buffer is
+/// touched.
+///
+/// ```
+/// # fn main() -> Result<(), straightener::Refusal> {
+/// use straightener::{straighten, work_places, Kernel, Setting};
+///
+/// let setting = Setting::new().with_kernel(Kernel::Keys).with_centre(1, 1).with_shears(-4_096, 4_096);
+/// let mut result = [0; 9];
+/// let mut work = vec![0; work_places(3, 3)];
+/// let told = straighten(3, 3, setting, &[1, 2, 3, 4, 5, 6, 7, 8, 9], &mut result, &mut work)?;
+/// assert_eq!((result, told.count), ([7, 4, 1, 8, 5, 2, 9, 6, 3], 0));
+/// # Ok(())
+/// # }
+/// ```
+pub fn straighten(
+    width: usize,
+    height: usize,
+    setting: Setting,
+    picture: &[i32],
+    result: &mut [i32],
+    work: &mut [i32],
+) -> Result<Straightened, Refusal> {
+    let answer = raw::straighten(width, height, setting.into(), picture, result, work);
+    accepted(answer.number, answer.row, answer.column)?;
+    Ok(Straightened { count: answer.count })
+}
+
+/// Straightens a picture into a new one; refused as [`straighten`] is.
+///
+/// ```
+/// # fn main() -> Result<(), straightener::Refusal> {
+/// use straightener::{straightened, Refusal, Setting};
+///
+/// let setting = Setting::new().with_shears(2_048, 0);
+/// let (result, told) = straightened(2, 2, setting, &[0, 10, 0, 10])?;
+/// assert_eq!((result, told.count), (vec![0, 10, 5, 5], 2));
+///
+/// let too_light = straightened(2, 2, setting, &[0, 10, 32_768, 10]);
+/// assert_eq!(too_light, Err(Refusal::Sample { row: 1, column: 0 }));
+/// # Ok(())
+/// # }
+/// ```
+pub fn straightened(
+    width: usize,
+    height: usize,
+    setting: Setting,
+    picture: &[i32],
+) -> Result<(Vec<i32>, Straightened), Refusal> {
+    // A picture that is too short is refused before its result would be of use.
+    let places = picture.len().min(width.saturating_mul(height));
+    let (mut result, mut work) = (vec![0; places], vec![0; work_places(width, height)]);
+    let told = straighten(width, height, setting, picture, &mut result, &mut work)?;
+    Ok((result, told))
+}
+
+/// Moves a line by d/4,096 samples, toward higher places for a positive d. On background a line that moves
+/// by its own length or more, either way, becomes all background.
+///
+/// `result` takes as many places as the line and `work` takes [`line_work_places`]. The line has 1 to
+/// 1,024 samples within plus or minus 294,912; d lies within plus or minus 4,194,304, and a background
+/// within plus or minus 32,767. Under Keys and the spline the result may lie beyond the line's own range.
+///
+/// Refused with [`Refusal::Size`], [`Refusal::Buffer`], [`Refusal::Shear`], [`Refusal::Background`] or
+/// [`Refusal::Sample`].
+///
+/// ```
+/// # fn main() -> Result<(), straightener::Refusal> {
+/// use straightener::{line_work_places, move_line, Border, Kernel};
+///
+/// let (line, mut result, mut work) = ([0, 0, 16, 0], [0; 4], vec![0; line_work_places(4)]);
+/// assert!(move_line(Kernel::Keys, -2_048, Border::Wrapped, &line, &mut result, &mut work)?.interpolated);
+/// assert_eq!(result, [-1, 9, 9, -1]);
+/// move_line(Kernel::Keys, -2_048, Border::Background(100), &line, &mut result, &mut work)?;
+/// assert_eq!(result, [-7, 9, 3, 49]);
+/// move_line(Kernel::Keys, 4 * 4_096, Border::Background(100), &line, &mut result, &mut work)?;
+/// assert_eq!(result, [100; 4]);
+/// # Ok(())
+/// # }
+/// ```
+pub fn move_line(
+    kernel: Kernel,
+    d: i32,
+    border: Border,
+    line: &[i32],
+    result: &mut [i32],
+    work: &mut [i32],
+) -> Result<Moved, Refusal> {
+    let (border, background) = border.numbers();
+    let answer = raw::move_line(line.len(), kernel.number(), d, border, background, line, result, work);
+    accepted(answer.number, answer.row, answer.column)?;
+    Ok(Moved { interpolated: answer.count == 1 })
+}
+
+/// S(t), in 4,096ths: the shear of the columns at step t, from -1,697 to 1,697.
+///
+/// Refused with [`Refusal::Shear`].
+///
+/// ```
+/// # fn main() -> Result<(), straightener::Refusal> {
+/// assert_eq!(straightener::sine(1_000)?, 1_887);
+/// # Ok(())
+/// # }
+/// ```
+pub fn sine(step: i32) -> Result<i32, Refusal> {
+    let answer = raw::sine(step);
+    accepted(answer.number, 0, 0)?;
+    Ok(answer.value)
+}
+
+/// The step that levels the graticule line through column x1, row y1 and column x2, row y2.
+///
+/// Refused with [`Refusal::Point`] for a coordinate that is not from 0 to 1,023, and with
+/// [`Refusal::Slope`] where the second point is not to the right or lies beyond 45 degrees.
+///
+/// ```
+/// # fn main() -> Result<(), straightener::Refusal> {
+/// assert_eq!(straightener::level(0, 0, 100, 1)?, -20);
+/// # Ok(())
+/// # }
+/// ```
+pub fn level(x1: i32, y1: i32, x2: i32, y2: i32) -> Result<i32, Refusal> {
+    let answer = raw::level(x1, y1, x2, y2);
+    accepted(answer.number, 0, 0)?;
+    Ok(answer.value)
+}
+
+/// The answer to one line of the line format, given without its line feed; the answer ends in one. A line
+/// that is refused is answered too: its number stands in the answer's text. No refusal of the call itself
+/// is known, since the longest answer has room.
+///
+/// ```
+/// # fn main() -> Result<(), straightener::Refusal> {
+/// let answer = straightener::answer_line(b"000000000100010000000080")?;
+/// assert_eq!(answer, b"0000000001000100004000\n");
+/// # Ok(())
+/// # }
+/// ```
+pub fn answer_line(line: &[u8]) -> Result<Vec<u8>, Refusal> {
+    let mut answer = vec![0; raw::LONGEST_ANSWER];
+    let answered = raw::answer_line(line, &mut answer);
+    accepted(answered.number, 0, 0)?;
+    answer.truncate(answered.written);
+    Ok(answer)
+}

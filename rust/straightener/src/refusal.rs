@@ -1,0 +1,138 @@
+//! Why a call is refused.
+
+use std::error::Error;
+use std::fmt;
+use straightener_sys as sys;
+
+/// Makes the refusals of a list: number, name, the C interface's constant and words of each. Those of the
+/// second list name the first sample to blame, by its row and column.
+macro_rules! refusals {
+    (
+        plain: $($number:literal $name:ident $constant:ident $words:literal)*
+        with_a_place: $($at:literal $placed:ident $placed_constant:ident $placed_words:literal)*
+    ) => {
+        /// Why a call was refused; nothing was written to any buffer.
+        ///
+        /// ```
+        /// use straightener::{level, Refusal};
+        ///
+        /// let refusal = level(0, 0, 10, 20).unwrap_err();
+        /// assert_eq!(refusal, Refusal::Slope);
+        /// assert_eq!(refusal.number(), 8);
+        /// println!("{refusal}");
+        /// ```
+        #[derive(Clone, Copy, Debug, PartialEq, Eq, Hash)]
+        #[non_exhaustive]
+        pub enum Refusal {
+            $(#[doc = concat!("Number ", $number, ": ", $words, ".")] $name,)*
+            $(
+                #[doc = concat!("Number ", $at, ": ", $placed_words, ".")]
+                $placed {
+                    /// Row of the first such sample in row order; 0 for a line.
+                    row: usize,
+                    /// Column of that sample.
+                    column: usize,
+                },
+            )*
+            /// A number that this version of the package has no name for, as a later version of the library may answer.
+            #[non_exhaustive]
+            Unknown {
+                /// The number.
+                number: u32,
+                /// The row that came with it.
+                row: usize,
+                /// The column that came with it.
+                column: usize,
+            },
+        }
+
+        $(const _: () = assert!($number == sys::$constant);)*
+        $(const _: () = assert!($at == sys::$placed_constant);)*
+
+        impl Refusal {
+            /// The number that the documents, the C interface and the line program give the refusal.
+            pub fn number(self) -> u32 {
+                match self {
+                    $(Refusal::$name => $number,)*
+                    $(Refusal::$placed { .. } => $at,)*
+                    Refusal::Unknown { number, .. } => number,
+                }
+            }
+
+            /// The refusal of a number, with the row and the column that came with it; number 0 is none.
+            pub fn from_number(number: u32, row: usize, column: usize) -> Option<Refusal> {
+                Some(match number {
+                    sys::STRAIGHTENER_ACCEPTED => return None,
+                    $($number => Refusal::$name,)*
+                    $($at => Refusal::$placed { row, column },)*
+                    _ => Refusal::Unknown { number, row, column },
+                })
+            }
+        }
+
+        impl fmt::Display for Refusal {
+            fn fmt(&self, f: &mut fmt::Formatter<'_>) -> fmt::Result {
+                match self {
+                    $(Refusal::$name => f.write_str($words),)*
+                    $(Refusal::$placed { row, column } => {
+                        write!(f, "{}; the first is in row {row}, column {column}", $placed_words)
+                    })*
+                    Refusal::Unknown { number, row, column } => {
+                        write!(f, "number {number}, which this version has no words for; ")?;
+                        write!(f, "row {row}, column {column}")
+                    }
+                }
+            }
+        }
+    };
+}
+
+refusals! {
+    plain:
+        1 Size STRAIGHTENER_REFUSED_SIZE
+        "width, height and line length must be from 1 to 1,024"
+
+        2 Buffer STRAIGHTENER_REFUSED_BUFFER
+        "a buffer is too short: a picture, result or output takes width x height places, a line its \
+         length, work its work places, and the answer to a line all of its bytes"
+
+        3 Centre STRAIGHTENER_REFUSED_CENTRE
+        "the centre lies outside the picture: its column must be below the width and its row below the \
+         height"
+
+        4 Shear STRAIGHTENER_REFUSED_SHEAR
+        "a shear must be from -4,096 to 4,096, a step from -1,697 to 1,697, and the move of a line from \
+         -4,194,304 to 4,194,304"
+
+        5 Kernel STRAIGHTENER_REFUSED_KERNEL
+        "the kernel must be 0 (linear), 1 (Keys) or 2 (cubic spline)"
+
+        7 Point STRAIGHTENER_REFUSED_POINT
+        "the point lies outside the picture; for levelling, coordinates must be from 0 to 1,023"
+
+        8 Slope STRAIGHTENER_REFUSED_SLOPE
+        "the second point must lie to the right of the first, and no steeper than 45 degrees from it"
+
+        9 Line STRAIGHTENER_REFUSED_LINE
+        "the line must be upper-case hexadecimal digits and nothing else: 22, then 2 for each of its \
+         width x height greys, at most 4,096 greys"
+
+        12 Background STRAIGHTENER_REFUSED_BACKGROUND
+        "the background must be a sample from -32,767 to 32,767, 128 units to one grey; a wrapped border \
+         has none"
+
+    with_a_place:
+        6 Sample STRAIGHTENER_REFUSED_SAMPLE
+        "a sample lies beyond its range, which is 32,767 units to either side of 0 for straightening, \
+         294,912 for a single line and 1,048,576 for readings"
+}
+
+impl Error for Refusal {}
+
+/// Passes number 0, and turns every other into its refusal.
+pub(crate) fn accepted(number: u32, row: usize, column: usize) -> Result<(), Refusal> {
+    match Refusal::from_number(number, row, column) {
+        None => Ok(()),
+        Some(refusal) => Err(refusal),
+    }
+}

@@ -1,0 +1,129 @@
+//! The safe calls: their settings, their refusals and their messages.
+
+use std::collections::HashSet;
+use straightener::{
+    answer_line, floats_out, greys_out, level, line_work_places, move_line, reading, sine, straighten,
+    straightened, summary, work_places, Border, Kernel, Refusal, Setting,
+};
+
+#[test]
+fn a_change_keeps_the_rest_of_the_setting() {
+    let setting = Setting::new().with_kernel(Kernel::Spline).with_centre(3, 4).with_shears(5, 6);
+    assert_eq!((setting.kernel(), setting.centre(), setting.shears()), (Kernel::Spline, (3, 4), (5, 6)));
+    assert_eq!(setting.border(), Border::Wrapped);
+    let keys = setting.with_kernel(Kernel::Keys);
+    assert_eq!((keys.kernel(), keys.centre(), keys.shears()), (Kernel::Keys, (3, 4), (5, 6)));
+    let linear = keys.with_kernel(Kernel::Linear);
+    assert_eq!((linear.kernel(), linear.centre(), linear.shears()), (Kernel::Linear, (3, 4), (5, 6)));
+    let far = setting.with_centre(usize::MAX, 7).with_shears(i32::MIN, i32::MAX);
+    assert_eq!(
+        (far.kernel(), far.centre(), far.shears()),
+        (Kernel::Spline, (usize::MAX, 7), (i32::MIN, i32::MAX))
+    );
+    let stepped = setting.with_step(-1_697).expect("a step within its range");
+    assert_eq!(
+        (stepped.kernel(), stepped.centre(), stepped.shears()),
+        (Kernel::Spline, (3, 4), (1_697, -2_897))
+    );
+    assert_eq!(setting.with_step(-1_698), Err(Refusal::Shear));
+    assert_eq!(Setting::new(), Setting::default());
+}
+
+#[test]
+fn every_change_keeps_the_border() {
+    let plain = Setting::new().with_kernel(Kernel::Keys).with_centre(3, 4).with_shears(5, 6);
+    for border in
+        [Border::Wrapped, Border::Background(0), Border::Background(-7), Border::Background(i32::MIN)]
+    {
+        let setting = plain.with_border(border);
+        assert_eq!((setting.kernel(), setting.centre(), setting.shears()), (Kernel::Keys, (3, 4), (5, 6)));
+        let stepped = setting.with_step(80).expect("a step within its range");
+        for changed in [
+            setting,
+            setting.with_kernel(Kernel::Spline),
+            setting.with_centre(9, 8),
+            setting.with_shears(-1, -2),
+            stepped,
+        ] {
+            assert_eq!(changed.border(), border);
+        }
+        assert_eq!(setting.with_border(Border::Wrapped), plain);
+    }
+    assert_eq!(Border::default(), Border::Wrapped);
+}
+
+#[test]
+fn every_call_tells_its_refusals() {
+    let (mut result, mut work) = ([0; 4], vec![0; work_places(2, 2)]);
+    let setting = Setting::new();
+    let mut call = |size: (usize, usize), setting, picture: &[i32]| {
+        straighten(size.0, size.1, setting, picture, &mut result, &mut work).map(|told| told.count)
+    };
+    assert_eq!(call((2, 2), setting, &[1, 2, 3, 4]), Ok(0));
+    assert_eq!(call((0, 2), setting, &[1, 2, 3, 4]), Err(Refusal::Size));
+    assert_eq!(call((2, 2), setting, &[1, 2, 3]), Err(Refusal::Buffer));
+    assert_eq!(call((2, 2), setting.with_centre(2, 0), &[1, 2, 3, 4]), Err(Refusal::Centre));
+    assert_eq!(call((2, 2), setting.with_shears(0, 4_097), &[1, 2, 3, 4]), Err(Refusal::Shear));
+    let bright = setting.with_border(Border::Background(32_768));
+    assert_eq!(call((2, 2), bright, &[1, 2, 3, 32_768]), Err(Refusal::Background));
+    assert_eq!(call((2, 2), setting, &[1, 2, 3, 32_768]), Err(Refusal::Sample { row: 1, column: 1 }));
+    let moved = |d: i32, border: Border, line: &[i32]| {
+        let (mut result, mut work) = (vec![0; line.len()], vec![0; line_work_places(line.len())]);
+        move_line(Kernel::Keys, d, border, line, &mut result, &mut work).map(|told| told.interpolated)
+    };
+    let bad = Err(Refusal::Sample { row: 0, column: 2 });
+    assert_eq!(moved(1, Border::Wrapped, &[0, 0, 300_000]), bad);
+    assert_eq!(moved(1, Border::Background(-32_768), &[0, 0, 300_000]), Err(Refusal::Background));
+    assert_eq!(moved(4_194_305, Border::Background(-32_768), &[0, 0, 300_000]), Err(Refusal::Shear));
+    assert_eq!(moved(1, Border::Wrapped, &[]), Err(Refusal::Size));
+    assert_eq!(moved(4_096, Border::Wrapped, &[1, 2]), Ok(false));
+    assert_eq!(moved(8_191, Border::Background(5), &[1, 2]), Ok(true));
+    assert_eq!(moved(8_193, Border::Background(5), &[1, 2]), Ok(false));
+    assert_eq!(
+        (sine(1_698), level(-1, 0, 5, 0), level(5, 0, 5, 0)),
+        (Err(Refusal::Shear), Err(Refusal::Point), Err(Refusal::Slope))
+    );
+    assert_eq!(reading(2, 1, 2, 0, &[1, 2]), Err(Refusal::Point));
+    assert_eq!(summary(2, 1, &[1]), Err(Refusal::Buffer));
+    assert_eq!(greys_out(1, 1, &[2_000_000], &mut [0]), Err(Refusal::Sample { row: 0, column: 0 }));
+    assert_eq!(floats_out(1, 1_025, &[0], &mut [0.0]), Err(Refusal::Size));
+}
+
+#[test]
+fn convenience_takes_any_size_without_allocating_it() {
+    for size in [(usize::MAX, usize::MAX), (usize::MAX, 2), (0, 0), (0, usize::MAX)] {
+        assert_eq!(straightened(size.0, size.1, Setting::new(), &[1, 2]), Err(Refusal::Size));
+    }
+    assert_eq!(straightened(1_024, 1_024, Setting::new(), &[1, 2]), Err(Refusal::Buffer));
+    let (result, told) = straightened(2, 1, Setting::new(), &[1, 2, 3]).expect("a longer picture");
+    assert_eq!((result, told.count), (vec![1, 2], 0));
+    assert_eq!((work_places(3, 5), line_work_places(7)), (60, 42));
+    assert_eq!((work_places(3, 1_025), line_work_places(usize::MAX)), (0, 0));
+}
+
+#[test]
+fn no_two_refusals_say_the_same() {
+    let refusals: Vec<_> = (1..20).filter_map(|number| Refusal::from_number(number, 3, 5)).collect();
+    assert!(refusals.iter().zip(1..).all(|(refusal, number)| refusal.number() == number));
+    let messages: HashSet<String> = refusals.iter().map(Refusal::to_string).collect();
+    assert_eq!(messages.len(), 19, "{messages:?}");
+    assert!(messages.iter().all(|message| message.len() > 40 && !message.contains("  ")), "{messages:?}");
+    let sample = Refusal::Sample { row: 3, column: 5 }.to_string();
+    assert!(sample.contains("row 3, column 5") && sample.contains("32,767"), "{sample}");
+}
+
+#[test]
+fn a_number_without_a_name_is_carried() {
+    let number = u32::MAX;
+    let refusal = Refusal::from_number(number, 7, 9).expect("a refusal");
+    assert_eq!(refusal.number(), number);
+    assert!(matches!(refusal, Refusal::Unknown { row: 7, column: 9, .. }));
+    let message = refusal.to_string();
+    assert!(message.contains("number 4294967295") && message.contains("row 7, column 9"), "{message}");
+}
+
+#[test]
+fn the_longest_answer_fits() {
+    let line = [&b"0000000040004000000000"[..], &[b'8'; 8_192]].concat();
+    assert_eq!(answer_line(&line).map(|answer| answer.len()), Ok(32_783));
+}
