@@ -1,4 +1,5 @@
 /* level X1 Y1 X2 Y2 < tilted.pgm > level.pgm: makes the graticule line through two points level. */
+#include <ctype.h>
 #include <stdio.h>
 #include <stdlib.h>
 #include <straightener.h>
@@ -22,9 +23,8 @@ static int32_t coordinate(const char *word)
 /* The next number of the PGM header, after white space and comments; 0 where there is none. */
 static size_t header_number(void)
 {
-    char mark[2];
     size_t number = 0;
-    while (scanf(" %1[#]%*[^\n]", mark) == 1) {}
+    for (char mark[2]; scanf(" %1[#]%*[^\n]", mark) == 1;) {}
     return scanf("%9zu", &number) == 1 ? number : 0;
 }
 
@@ -37,7 +37,7 @@ int main(int argc, char **argv)
     const char *no_picture = "the input is not a whole raw PGM picture of 256 greys";
     int raw = getchar() == 'P' && getchar() == '5';
     size_t width = header_number(), height = header_number(), white = header_number();
-    stop_if(!raw || white != 255 || getchar() == EOF, no_picture);
+    stop_if(!raw || white != 255 || !isspace(getchar()), no_picture);
     size_t room = straightener_work_places(width, height), places = room == 0 ? 0 : width * height;
     uint8_t *greys = malloc(places + 1);
     int32_t *picture = malloc((2 * places + room + 1) * sizeof *picture); /* then the result, then work */

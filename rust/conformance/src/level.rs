@@ -35,9 +35,15 @@ pub fn held_to_its_cases(level: &dyn Fn() -> Command) {
     told("11 34 52 4294967296", &screen, "not a whole number");
     told("0 0 5 50", &screen, "45 degrees");
     told("0 0 1024 0", &screen, "from 0 to 1,023");
-    for damaged in
-        [&b""[..], b"P2 1 1 255 0", b"P5 2 2 255 123", b"P5 2 2 65535 12345678", b"P5 2 x 255 1234"]
-    {
+    let damaged = [
+        &b""[..],
+        b"P2 1 1 255 0",
+        b"P5 2 2 255 123",
+        b"P5 2 2 255# 1234",
+        b"P5 2 2 65535 12345678",
+        b"P5 2 x 255 1234",
+    ];
+    for damaged in damaged {
         told("0 0 5 0", damaged, "not a whole raw PGM picture of 256 greys");
     }
     told("0 0 5 0", &[&b"P5 1025 1 255 "[..], &[0; 1_025]].concat(), "from 1 to 1,024");

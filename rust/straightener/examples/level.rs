@@ -53,5 +53,6 @@ fn pgm(file: &[u8]) -> Option<(usize, usize, &[u8])> {
         rest = &rest[digits..];
     }
     let [width, height, 255] = numbers else { return None };
-    Some((width, height, rest.get(1..width.checked_mul(height)?.checked_add(1)?)?))
+    let raw = rest.split_first().filter(|(space, _)| space.is_ascii_whitespace())?.1;
+    Some((width, height, raw.get(..width.checked_mul(height)?)?))
 }

@@ -123,9 +123,11 @@ pub fn straightened(
 /// let (line, mut result, mut work) = ([0, 0, 16, 0], [0; 4], vec![0; line_work_places(4)]);
 /// assert!(move_line(Kernel::Keys, -2_048, Border::Wrapped, &line, &mut result, &mut work)?.interpolated);
 /// assert_eq!(result, [-1, 9, 9, -1]);
-/// move_line(Kernel::Keys, -2_048, Border::Background(100), &line, &mut result, &mut work)?;
+///
+/// let grey = Border::Background(100);
+/// assert!(move_line(Kernel::Keys, -2_048, grey, &line, &mut result, &mut work)?.interpolated);
 /// assert_eq!(result, [-7, 9, 3, 49]);
-/// move_line(Kernel::Keys, 4 * 4_096, Border::Background(100), &line, &mut result, &mut work)?;
+/// assert!(!move_line(Kernel::Keys, 4 * 4_096, grey, &line, &mut result, &mut work)?.interpolated);
 /// assert_eq!(result, [100; 4]);
 /// # Ok(())
 /// # }

@@ -85,7 +85,8 @@ impl Picture {
         let greys = if kind == "P2" {
             plain_greys(&mut reader, places)?
         } else {
-            let raw = bytes.get(reader.at + 1..).unwrap_or_default();
+            let after = bytes[reader.at..].split_first().filter(|(space, _)| space.is_ascii_whitespace());
+            let (_, raw) = after.ok_or("the PGM file has no white space between its header and its greys")?;
             raw.get(..places).ok_or("the PGM file ends too early")?.to_vec()
         };
         Ok(Picture { width, height, greys })
@@ -124,9 +125,15 @@ mod tests {
     fn damaged_files_are_told() {
         let raw = Picture { width: 3, height: 2, greys: vec![7; 6] }.to_pgm();
         assert!((0..raw.len()).all(|length| Picture::from_pgm(&raw[..length]).is_err()));
-        for text in
-            ["P6 1 1 255 0", "P2 1 1 65535 0", "P2 1 1 255 256", "P2 1 x 255 0", "P5 0 1 255 ", "P5 1 0 255 "]
-        {
+        for text in [
+            "P6 1 1 255 0",
+            "P2 1 1 65535 0",
+            "P2 1 1 255 256",
+            "P2 1 x 255 0",
+            "P5 0 1 255 ",
+            "P5 1 0 255 ",
+            "P5 1 1 255#\n0",
+        ] {
             assert!(Picture::from_pgm(text.as_bytes()).is_err(), "{text}");
         }
     }

@@ -2,9 +2,8 @@
 //! document 02.
 //!
 //! Support for tests of small pictures: lines of at most [`LONGEST`] samples, or a third of that on
-//! background. The weights here come
-//! from the published kernels as functions of distance, not from the document's table of rows, so
-//! that the two check each other.
+//! background. The weights here come from the published kernels as functions of distance, not from the
+//! document's table of rows, so that the two check each other.
 
 mod whole;
 

@@ -1,7 +1,7 @@
 //! The line program: what it prints for one line, and for a whole input.
 
 use super::steps::{with_step, LARGEST_STEP};
-use super::{judge_size, refuse_if, straighten, Refused, Setting};
+use super::{judge_size, refuse_if, straighten, work_places, Refused, Setting};
 
 /// Digits before the first grey.
 const HEADER: usize = 22;
@@ -66,7 +66,7 @@ fn straightened(request: &Request) -> Result<(u32, Vec<i32>), Refused> {
     let setting = Setting::default().with_kernel(request.kernel).with_centre(request.cx, request.cy);
     let (_, setting) = with_step(setting, request.step);
     let mut result = vec![0; width * height];
-    let mut work = vec![0; 12 * width.max(height)];
+    let mut work = vec![0; work_places(width, height)];
     let count = straighten(width, height, setting, &request.picture, &mut result, &mut work)?;
     Ok((count, result))
 }
