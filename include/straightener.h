@@ -20,9 +20,10 @@
  * Line format       straightener_answer_line
  * Refusals          straightener_words
  *
- * Pictures. A sample is a signed whole number, 128 units to one grey: 0 is black, 32,640 is grey 255.
+ * Pictures. A sample is a signed whole number, 128 units to one grey: 0 is grey 0, 32,640 is grey 255.
  * A picture is width times height samples, row by row; columns count to the right and rows downward,
- * both from 0. Width and height are 1 to 1,024.
+ * both from 0. Width and height are 1 to 1,024. straightener_reading alone knows of black and white, greys
+ * 16 and 235 of the video range; all else keeps to 0 and 255, or to no range.
  *
  * Buffers. A buffer is a pointer and, after it, its length in places (not in bytes). It may be longer
  * than the call needs: later places stay as they are, and nothing that is answered or written depends on
@@ -42,9 +43,9 @@
 #include <stdint.h>
 
 /* The version of this header, as text and as its parts. */
-#define STRAIGHTENER_VERSION "0.2.0"
+#define STRAIGHTENER_VERSION "0.3.0"
 #define STRAIGHTENER_VERSION_MAJOR 0
-#define STRAIGHTENER_VERSION_MINOR 2
+#define STRAIGHTENER_VERSION_MINOR 3
 #define STRAIGHTENER_VERSION_PATCH 0
 
 #ifdef __cplusplus
@@ -112,8 +113,11 @@ enum { STRAIGHTENER_LINEAR = 0, STRAIGHTENER_KEYS = 1, STRAIGHTENER_SPLINE = 2 }
 /* The borders: beyond its ends a line goes on with its other end, or with background. */
 enum { STRAIGHTENER_WRAPPED = 0, STRAIGHTENER_ON_BACKGROUND = 1 };
 
-/* The cases of a reading. */
+/* The cases of a reading: from black to white, below black, above white. */
 enum { STRAIGHTENER_LEVEL = 0, STRAIGHTENER_UNDER = 1, STRAIGHTENER_OVER = 2 };
+
+/* Black and white of the video range (Recommendation ITU-R BT.601), as samples: greys 16 and 235. */
+enum { STRAIGHTENER_BLACK = 2048, STRAIGHTENER_WHITE = 30080 };
 
 /* The answer to a line of the line format, with its line feed, never takes more bytes than this. */
 #define STRAIGHTENER_LONGEST_ANSWER 32783
@@ -168,8 +172,8 @@ typedef struct {
  * A reading at a point.
  *   number, row, column  as in straightener_answer
  *   kind                 0 Level, 1 Under, 2 Over
- *   greys                Level: the sample in greys; Under: how many greys it lies below 0;
- *                        Over: how many greys it lies above 255. Exact
+ *   greys                Level: the sample in greys, 16 to 235, or 0 where refused; Under: how many greys
+ *                        it lies below 16; Over: how many greys it lies above 235. Exact
  */
 typedef struct {
     uint32_t number;
@@ -293,7 +297,7 @@ straightener_step straightener_sine(int32_t t);
 straightener_step straightener_level(int32_t x1, int32_t y1, int32_t x2, int32_t y2);
 
 /*
- * Turns samples into greys: (v + 64)/128 rounded down, held to 0 to 255.
+ * Turns samples into greys: (v + 64)/128 rounded down, held to 0 to 255 and not to 16 to 235.
  *   width, height  1 to 1,024
  *   picture        at least width * height places; samples within +-1,048,576
  *   greys          at least width * height places; so many receive the greys
@@ -315,12 +319,13 @@ straightener_answer straightener_floats_out(size_t width, size_t height,
                                             float *floats, size_t floats_len);
 
 /*
- * Reads one sample of a picture: Under below 0, Over above 32,640, else Level.
+ * Reads one sample v of a picture: Under by (2,048 - v)/128 greys where v is below 2,048, black; Over by
+ * (v - 30,080)/128 greys where v is above 30,080, white; else, black and white included, Level v/128.
  *   width, height  1 to 1,024
  *   column, row    the point; column below the width, row below the height
  *   picture        at least width * height places; samples within +-1,048,576
- * Refuses under 1, 2, 6, 7. A refused reading is Level 0. Every sample of the picture is judged, also
- * those beside the point.
+ * Refuses under 1, 2, 6, 7. A refused reading is Level 0, which no sample reads: a sample of 0 is Under 16.
+ * Every sample of the picture is judged, also those beside the point.
  */
 straightener_reading_answer straightener_reading(size_t width, size_t height, size_t column, size_t row,
                                                  const int32_t *picture, size_t picture_len);

@@ -49,18 +49,23 @@ fn folder() -> PathBuf {
 }
 
 /// Holds the archive to this package's version, by the header that was made or installed with it: another
-/// version may lay out its answers in another way.
+/// version may lay out its answers in another way, or mean something else by them.
 fn hold_version(folder: &Path) {
     let version = env::var("CARGO_PKG_VERSION").expect("cargo names the package's version");
-    let headers = [folder.join("straightener.h"), folder.join("../include/straightener.h")];
-    for header in headers.iter().filter(|header| header.is_file()) {
-        println!("cargo:rerun-if-changed={}", header.display());
-        let text = fs::read_to_string(header).unwrap_or_default();
-        if !text.contains(&format!("#define STRAIGHTENER_VERSION \"{version}\"\n")) {
-            stop(&[
-                &format!("The library beside {} is not of version {version}.", header.display()),
-                "Make it anew in the repository's folder by:   make",
-            ]);
-        }
+    let places = ["straightener.h", "../include/straightener.h", "../../include/straightener.h"];
+    let headers = places.map(|place| folder.join(place));
+    let Some(header) = headers.iter().find(|header| header.is_file()) else {
+        stop(&[
+            &format!("In {} there is none of {},", folder.display(), places.join(", ")),
+            "and without the header the version of the library cannot be told.",
+        ])
+    };
+    println!("cargo:rerun-if-changed={}", header.display());
+    let text = fs::read_to_string(header).unwrap_or_default();
+    if !text.contains(&format!("#define STRAIGHTENER_VERSION \"{version}\"\n")) {
+        stop(&[
+            &format!("The library beside {} is not of version {version}.", header.display()),
+            "Make it anew in the repository's folder by:   make",
+        ]);
     }
 }

@@ -2,13 +2,13 @@
 -- a range from bounds, and from a bound on the size. A need speaks of what the machine reads back, `toZ w (ofZ w x)`: one that has
 -- more than a parameter in it is answered by `Compute`.
 -- Assumes nothing.
-use mathlib.Core.Path.{_≡_, sym, subst}
-use mathlib.Core.Bool.{true, false, not}
+use mathlib.Core.Path.{_≡_, refl, sym, subst}
+use mathlib.Core.Bool.{Bool, true, false, not}
 use Prim.Native.Nat.{ℕ, zero, suc, _*_, _/_, _%_, _^_, _≤_, _<_}
 use native.Mathlib.Nat.{le-trans, le-of-eq, div-lt-iff-lt-mul, div-le-self, mod-le}
 use lib.Dec.{T, ltb}
 use lib.IntN.{ℤ, pos, negsuc, negℤ, natAbs}
-use lib.Signed.{_≤ℤ_, _<ℤ_, leZ, ltZ, leZ-yes, ltZ-yes, ltZ-no, shrZ, quotZ, remZ, mag, mag-shr, mag-rem, nonNeg, yes-nonNeg}
+use lib.Signed.{_≤ℤ_, _<ℤ_, leZ, ltZ, leZ-yes, ltZ-yes, ltZ-no, shrZ, quotZ, remZ, mag, mag-shr, mag-rem, nonNeg, yes-nonNeg, clashℤ}
 use native.Mathlib.Omega.{arith}
 use mir.Syntax.{Width}
 use mir.Val.{Fits, SFits, toZ, ofZ, bits, hbits}
@@ -51,6 +51,21 @@ le-true x y e = leZ-yes (subst T (sym e) tt)
 
 pub le-false : (x y : ℤ) → leZ x y ≡ false → y <ℤ x
 le-false x y e = <ℤ-of-¬≤ℤ (λ h. subst T e (h .le))
+
+-- and back: what a test answers, from the order that it decides
+pub true-lt : (x y : ℤ) → x <ℤ y → ltZ x y ≡ true
+true-lt x y h = answer (ltZ x y) refl
+  where
+    answer : (b : Bool) → ltZ x y ≡ b → ltZ x y ≡ true
+    answer true e = e
+    answer false e = clashℤ h (lt-false x y e)
+
+pub false-lt : (x y : ℤ) → y ≤ℤ x → ltZ x y ≡ false
+false-lt x y h = answer (ltZ x y) refl
+  where
+    answer : (b : Bool) → ltZ x y ≡ b → ltZ x y ≡ false
+    answer true e = clashℤ (lt-true x y e) h
+    answer false e = e
 
 -- ---- casts. To a wider signed type: `sfits-widen tt (c .fits .x)` (`mir.Facts`). To an unsigned one, of what is not negative:
 pub cast-unsigned : {w w′ : Width} {z : ℤ} → T (ltb (hbits w) (bits w′)) → SFits w z → pos 0 ≤ℤ z → T (nonNeg z) × Fits w′ (natAbs z)

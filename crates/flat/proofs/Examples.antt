@@ -31,19 +31,19 @@ level-upright : ofLevelled (levelOf (pos 5) (pos 0) (pos 5) (pos 0)) ≡ record 
 unfolding levelOf directionOf anyOutside outside steep
 level-upright = refl
 
--- a picture 3 wide and 1 high reads Under by half a grey, Level 1 and Over by one grey
+-- a picture 3 wide and 1 high reads Under by 16 and a half greys, Level 17 and Over by 21
 three : List ℤ
-three = negsuc 63 ∷ pos 128 ∷ pos 32768 ∷ []
+three = negsuc 63 ∷ pos 2176 ∷ pos 32768 ∷ []
 
-reads-under : ofReading (readingAnswer 3 1 0 0 three) ≡ record { number = 0; row = 0; column = 0; kind = 1; greys = ofBits binary32 0x3F00_0000 }
+reads-under : ofReading (readingAnswer 3 1 0 0 three) ≡ record { number = 0; row = 0; column = 0; kind = 1; greys = ofBits binary32 0x4184_0000 }
 unfolding three readingAnswer readingOf floatOf round ofBits judgedPoint pointOutside judged badSize badSide short firstBad firstFrom beyondOf
 reads-under = refl
 
-reads-level : ofReading (readingAnswer 3 1 1 0 three) ≡ record { number = 0; row = 0; column = 0; kind = 0; greys = ofBits binary32 0x3F80_0000 }
+reads-level : ofReading (readingAnswer 3 1 1 0 three) ≡ record { number = 0; row = 0; column = 0; kind = 0; greys = ofBits binary32 0x4188_0000 }
 unfolding three readingAnswer readingOf floatOf round ofBits judgedPoint pointOutside judged badSize badSide short firstBad firstFrom beyondOf
 reads-level = refl
 
-reads-over : ofReading (readingAnswer 3 1 2 0 three) ≡ record { number = 0; row = 0; column = 0; kind = 2; greys = ofBits binary32 0x3F80_0000 }
+reads-over : ofReading (readingAnswer 3 1 2 0 three) ≡ record { number = 0; row = 0; column = 0; kind = 2; greys = ofBits binary32 0x41A8_0000 }
 unfolding three readingAnswer readingOf floatOf round ofBits judgedPoint pointOutside judged badSize badSide short firstBad firstFrom beyondOf
 reads-over = refl
 

@@ -18,6 +18,11 @@ greys-at-the-borders :
 unfolding greyOf floor minℤ maxℤ
 greys-at-the-borders = refl
 
+-- greys of 1,920 and 30,208: one darker than video black and one lighter than video white are kept
+greys-beyond-video : map greyOf (pos 1920 ∷ pos 30208 ∷ []) ≡ 15 ∷ 236 ∷ []
+unfolding greyOf floor minℤ maxℤ
+greys-beyond-video = refl
+
 -- the bits of 1/128 and of -8,192
 bits-of-one-unit : toBits binary32 (floatOf (pos 1)) ≡ 0x3C00_0000
 unfolding floatOf round toBits
@@ -27,22 +32,15 @@ bits-of-the-lowest : toBits binary32 (floatOf (negsuc 1048575)) ≡ 0xC600_0000
 unfolding floatOf round toBits
 bits-of-the-lowest = refl
 
--- 32,640 is Level 255, 32,641 is Over by 1/128, -1 is Under by 1/128, and 0 is Level 0
-level-at-white : readingOf (pos 32640) ≡ Level (ofBits binary32 0x437F_0000)
+-- grey 0 reads Under by 16 and grey 250 Over by 15, and the ends of the range Under by 8,208 and Over by 7,957 (`Cases` has the bounds)
+zero-and-250 : map readingOf (pos 0 ∷ pos 32000 ∷ []) ≡ Under (ofBits binary32 0x4180_0000) ∷ Over (ofBits binary32 0x4170_0000) ∷ []
 unfolding readingOf floatOf round ofBits
-level-at-white = refl
+zero-and-250 = refl
 
-over-past-white : readingOf (pos 32641) ≡ Over (ofBits binary32 0x3C00_0000)
+ends-of-the-range :
+    map readingOf (negsuc 1048575 ∷ pos 1048576 ∷ []) ≡ Under (ofBits binary32 0x4600_4000) ∷ Over (ofBits binary32 0x45F8_A800) ∷ []
 unfolding readingOf floatOf round ofBits
-over-past-white = refl
-
-under-past-black : readingOf (negsuc 0) ≡ Under (ofBits binary32 0x3C00_0000)
-unfolding readingOf floatOf round ofBits
-under-past-black = refl
-
-level-at-black : readingOf (pos 0) ≡ Level (ofBits binary32 0)
-unfolding readingOf floatOf round ofBits
-level-at-black = refl
+ends-of-the-range = refl
 
 -- a picture 2 wide and 2 high: the first bad sample in row order is named, whatever comes after it
 two-bad : List ℤ
@@ -84,8 +82,8 @@ darkest-and-lightest :
 unfolding six summaryAnswer picked minℤ maxℤ floatOf round ofBits judged badSize badSide short firstBad firstFrom beyondOf
 darkest-and-lightest = refl
 
--- column 2 and row 0 of it: Under by half a grey
-half-under : readingAnswer 3 2 2 0 six ≡ record { verdict = Accepted; reading = Under (ofBits binary32 0x3F00_0000) }
+-- column 2 and row 0 of it, half a grey below 0: Under by 16 and a half
+half-under : readingAnswer 3 2 2 0 six ≡ record { verdict = Accepted; reading = Under (ofBits binary32 0x4184_0000) }
 unfolding six readingAnswer readingOf floatOf round ofBits judgedPoint outside judged badSize badSide short firstBad firstFrom beyondOf
 half-under = refl
 

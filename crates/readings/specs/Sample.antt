@@ -28,22 +28,22 @@ pub record Exactly (x : Float) (v : ℤ) : Type 0 where
   pub value : HasValue x (not (nonNeg v)) (natAbs v) 128
   pub held : T (Ieee.fits binary32 x)
 
--- the samples that read as Level go from the first to the second; no other definition names them
-abbrev pub levelFrom : ℤ
-levelFrom = pos 0
+-- black and white of the video range, greys 16 and 235, in units (Q-4); `readingOf` alone is measured from them
+abbrev pub black : ℤ
+black = pos 2048
 
-abbrev pub levelTo : ℤ
-levelTo = pos 32640
+abbrev pub white : ℤ
+white = pos 30080
 
--- a reading: Under by the greys that are missing, Over by those that are too many, otherwise Level
+-- a reading: below black Under, by the greys that are missing, above white Over, by those that are too many, otherwise Level
 unfoldable pub readingOf : ℤ → Reading
 readingOf v =
-    cond (ltZ v levelFrom) (Under (floatOf (levelFrom -ℤ v)))
-    (cond (ltZ levelTo v) (Over (floatOf (v -ℤ levelTo)))
+    cond (ltZ v black) (Under (floatOf (black -ℤ v)))
+    (cond (ltZ white v) (Over (floatOf (v -ℤ white)))
     (Level (floatOf v)))
 
 -- the greys that each case of a reading of v carries, with nothing rounded
 abbrev pub ReadsExactly : Reading → ℤ → Type 0
 ReadsExactly (Level x) v = Exactly x v
-ReadsExactly (Under x) v = Exactly x (levelFrom -ℤ v)
-ReadsExactly (Over x) v = Exactly x (v -ℤ levelTo)
+ReadsExactly (Under x) v = Exactly x (black -ℤ v)
+ReadsExactly (Over x) v = Exactly x (v -ℤ white)

@@ -18,12 +18,12 @@ use refusals::Verdict;
 // The range of samples, either way from 0.
 const RANGE: i32 = 1_048_576;
 
-// The samples that read as Level go from the first to the second.
-const LEVEL_FROM: i32 = 0;
+// Black and white of the video range: greys 16 and 235.
+const BLACK: i32 = 2_048;
 
-const LEVEL_TO: i32 = 32_640;
+const WHITE: i32 = 30_080;
 
-// A reading: Level with its greys, Under with the greys that are missing, Over with those that are too many.
+// A reading: below black Under, with the greys that are missing; above white Over, with those that are too many; otherwise Level, with its greys.
 pub enum Reading {
     Level(f32),
     Under(f32),
@@ -84,11 +84,11 @@ fn read(v: i32) -> Reading
     requires { ⌜ natAbs v ≤ range ⌝ }
     ensures { λ r. ⌜ r ≡ readingOf v ⌝ }
 {
-    if v < LEVEL_FROM {
-        return Reading::Under(float(LEVEL_FROM - v));
+    if v < BLACK {
+        return Reading::Under(float(BLACK - v));
     }
-    if LEVEL_TO < v {
-        return Reading::Over(float(v - LEVEL_TO));
+    if WHITE < v {
+        return Reading::Over(float(v - WHITE));
     }
     Reading::Level(float(v))
 }

@@ -204,8 +204,8 @@ fn the_line_format_stays_wrapped(implementation: &dyn Implementation) {
     let (_, setting) = implementation.with_step(Setting::default(), 1_000);
     let picture = vec![0, 0, 32_640, 32_640];
     let (wrapped, count) = straightened(implementation, (2, 2), setting, picture.clone());
-    let on_black = setting.with_border(Border::Background(0));
-    assert_ne!(straightened(implementation, (2, 2), on_black, picture).0, wrapped);
+    let on_background = setting.with_border(Border::Background(0));
+    assert_ne!(straightened(implementation, (2, 2), on_background, picture).0, wrapped);
     let samples: String = wrapped.iter().map(|sample| format!("{sample:08X}")).collect();
     let expected = format!("00{count:04X}00020002{samples}\n");
     assert_eq!(implementation.answer_line(line), expected.as_bytes());

@@ -14,7 +14,8 @@ const PRINTED: &str = "lines: 14 as the document has them\n\
                        settings: kernel 2, column 13, row 14, shears 11 and 12, border 1 of -15\n\
                        steps: S(1) = 2, S(1000) = 1887, S(1697) = 2897\n\
                        levelling: -20, -1697\n\
-                       readings: Under 0.5, Level 1, Over 1; darkest -0.5, lightest 256\n\
+                       readings: Under 16.5, Level 17, Over 21; darkest -0.5, lightest 256\n\
+                       from black to white: 0.0078125 16 235 0.0078125\n\
                        line format: 0000000001000100004000\n\
                        all as documented\n";
 

@@ -1,11 +1,13 @@
-//! The programs that README shows, made and run as it says.
+//! The programs that README shows, made and run as it says, and the readings that it lists.
 #![cfg(feature = "library")]
 
 use conformance::c::{done, WARNINGS};
 use conformance::files::{in_repository, read, Temporary};
 use conformance::install::{flags, make};
+use conformance::tables::table;
 use std::fs;
 use std::process::Command;
+use straightener::Reading;
 
 /// The program in a language that a text shows.
 fn program<'a>(text: &'a str, language: &str) -> &'a str {
@@ -48,4 +50,20 @@ fn the_rust_program_as_a_package() {
     cargo.args(["run", "--quiet", "--offline", "--target-dir", "target"]).current_dir(folder.path(""));
     let (_, expected) = line(&readme, "cargo run  ").split_once("# ").expect("what it prints");
     assert_eq!(done(&mut cargo).trim_end(), expected);
+}
+
+#[test]
+fn the_readings_of_samples() {
+    for row in table("README.md", "Sample") {
+        let sample = row[0].replace(',', "").parse().expect("a sample");
+        let (case, greys) = match straightener::reading(1, 1, 0, 0, &[sample]).expect("a reading") {
+            Reading::Level(greys) => ("Level", greys),
+            Reading::Under(greys) => ("Under", greys),
+            Reading::Over(greys) => ("Over", greys),
+        };
+        // As 64 bits, which are printed with every digit.
+        assert_eq!(row[2], format!("{case} {}", f64::from(greys)), "sample {sample}");
+        let grey = row[1].split(',').next().expect("a grey");
+        assert_eq!(grey.parse(), Ok(f64::from(sample) / 128.0), "sample {sample}");
+    }
 }

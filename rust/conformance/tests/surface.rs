@@ -85,7 +85,7 @@ fn constants_in_c_and_rust() {
     let mut in_c = constants(&header, " = ");
     in_c.extend(constants(&header, " ").into_iter().filter(|(name, _)| !name.starts_with("VERSION")));
     let sys = read("rust/straightener-sys/src/lib.rs");
-    let in_rust = [constants(&sys, ": u32 = "), constants(&sys, ": usize = ")].concat();
+    let in_rust = [": u32 = ", ": i32 = ", ": usize = "].map(|between| constants(&sys, between)).concat();
     assert_eq!(in_rust, in_c);
     for row in numbers() {
         let name = row.c.strip_prefix("STRAIGHTENER_").expect("a name of ours").to_string();
@@ -93,6 +93,30 @@ fn constants_in_c_and_rust() {
     }
     let refusals = in_c.iter().filter(|(name, _)| name.starts_with("REFUSED_")).count();
     assert_eq!(refusals, numbers().len());
+}
+
+/// A sample as the documents write it.
+fn with_comma(sample: i32) -> String {
+    format!("{},{:03}", sample / 1_000, sample % 1_000)
+}
+
+/// The numbers of a text that have a comma.
+fn with_commas(text: &str) -> Vec<String> {
+    let words = text.split(|c: char| !c.is_ascii_digit() && c != ',').map(|word| word.trim_matches(','));
+    words.filter(|word| word.contains(',')).map(str::to_string).collect()
+}
+
+#[test]
+fn bounds_of_a_reading() {
+    let (black, white) = (with_comma(straightener::BLACK), with_comma(straightener::WHITE));
+    let bounds = [black.clone(), black, white.clone(), white];
+    let said =
+        declared().into_iter().find(|(name, _)| name == "straightener_reading").expect("the reading").1;
+    assert_eq!(with_commas(&said)[..4], bounds, "the header's comment");
+    let amendments = read("docs/AMENDMENTS.md");
+    let said =
+        amendments.lines().find(|line| line.starts_with("- A reading is ")).expect("the amended point");
+    assert_eq!(with_commas(said)[..4], bounds, "docs/AMENDMENTS.md");
 }
 
 /// The layout of a struct as `tests/c/layout.c` prints it: its size and the place of each field.

@@ -21,6 +21,7 @@ for_both_implementations!(
     levels,
     readings,
     reading_calls,
+    video_readings,
     greys_and_floats,
     line_program,
     words,
@@ -269,6 +270,27 @@ fn reading_calls(implementation: &dyn Implementation) {
         let summary = implementation.summary(size, &picture);
         let expected = (place(&answer[6..]), float_bits(&answer[9]), float_bits(&answer[10]));
         assert_eq!(summary, expected, "summary of {input:?}");
+    }
+}
+
+fn video_readings(implementation: &dyn Implementation) {
+    for (input, answer) in vectors("video_readings.txt", 199) {
+        let greys = float_bits(value(&answer, "greys"));
+        let expected = |place: Answer| (place, number(value(&answer, "case")), greys);
+        if input[0] == "value" {
+            let read = implementation.reading((1, 1), 0, 0, &[number(value(&input, "v"))]);
+            assert_eq!(read, expected(Answer::accepted(0)), "{input:?}");
+            continue;
+        }
+        let picture = list(value(&input, "picture"));
+        let (column, row) = (number(value(&input, "column")), number(value(&input, "row")));
+        let figure = |name| number(value(&answer, name));
+        let place = Answer::of(figure("number") as u32, figure("row"), figure("column"), 0);
+        assert_eq!(
+            implementation.reading(named_size(&input), column, row, &picture),
+            expected(place),
+            "{input:?}"
+        );
     }
 }
 

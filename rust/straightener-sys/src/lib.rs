@@ -43,12 +43,17 @@ pub const STRAIGHTENER_WRAPPED: u32 = 0;
 /// Beyond its ends a line goes on with background.
 pub const STRAIGHTENER_ON_BACKGROUND: u32 = 1;
 
-/// A reading from 0 to 255 greys.
+/// A reading from black to white.
 pub const STRAIGHTENER_LEVEL: u32 = 0;
-/// A reading below 0.
+/// A reading below black.
 pub const STRAIGHTENER_UNDER: u32 = 1;
-/// A reading above 255 greys.
+/// A reading above white.
 pub const STRAIGHTENER_OVER: u32 = 2;
+
+/// Black of the video range, grey 16, as a sample.
+pub const STRAIGHTENER_BLACK: i32 = 2_048;
+/// White of the video range, grey 235, as a sample.
+pub const STRAIGHTENER_WHITE: i32 = 30_080;
 
 /// The most bytes that the answer to a line of the line format takes, with its line feed.
 pub const STRAIGHTENER_LONGEST_ANSWER: usize = 32_783;

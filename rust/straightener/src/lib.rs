@@ -44,6 +44,6 @@ pub use calls::{
     answer_line, level, line_work_places, move_line, sine, straighten, straightened, work_places, Moved,
     Straightened,
 };
-pub use readings::{floats_out, greys_out, reading, summary, Reading, Summary};
+pub use readings::{floats_out, greys_out, reading, summary, Reading, Summary, BLACK, WHITE};
 pub use refusal::Refusal;
 pub use setting::{Border, Kernel, Setting};

@@ -4,14 +4,24 @@ use crate::raw;
 use crate::refusal::{accepted, Refusal};
 use straightener_sys as sys;
 
-/// A reading at a point: within 0 to 255 greys, below or above, each with its greys.
+/// Black of the video range (Recommendation ITU-R BT.601), grey 16, as a sample.
+pub const BLACK: i32 = sys::STRAIGHTENER_BLACK;
+
+/// White of the video range (Recommendation ITU-R BT.601), grey 235, as a sample.
+pub const WHITE: i32 = sys::STRAIGHTENER_WHITE;
+
+/// A reading at a point: from [`BLACK`] to [`WHITE`], below black or above white, each with its greys.
+///
+/// The greys are exact: the sample is 128 times the greys of a Level, `BLACK` less 128 times those of an
+/// Under, or `WHITE` plus 128 times those of an Over. Rust prints an `f32` with as few digits as tell it from
+/// its neighbours, 16.0078125 as 16.007813; `f64::from` has them all.
 #[derive(Clone, Copy, Debug, PartialEq)]
 pub enum Reading {
-    /// The sample's greys, 0 to 255.
+    /// The sample's greys, 16 to 235.
     Level(f32),
-    /// By how many greys the sample lies below 0.
+    /// By how many greys the sample lies below black, grey 16.
     Under(f32),
-    /// By how many greys the sample lies above 255.
+    /// By how many greys the sample lies above white, grey 235.
     Over(f32),
 }
 
@@ -25,7 +35,8 @@ pub struct Summary {
     pub lightest: f32,
 }
 
-/// Fills the first width times height places of `greys` with the nearest greys, held to 0 to 255.
+/// Fills the first width times height places of `greys` with the nearest greys, held to 0 to 255 and not to
+/// the video range.
 ///
 /// Samples lie within plus or minus 1,048,576. Refused with [`Refusal::Size`], [`Refusal::Buffer`] or
 /// [`Refusal::Sample`].
@@ -68,12 +79,14 @@ pub fn floats_out(width: usize, height: usize, picture: &[i32], floats: &mut [f3
 ///
 /// ```
 /// # fn main() -> Result<(), straightener::Refusal> {
-/// use straightener::{reading, Reading};
+/// use straightener::{reading, Reading, BLACK, WHITE};
 ///
-/// let picture = [-64, 128, 32_768];
-/// assert_eq!(reading(3, 1, 0, 0, &picture)?, Reading::Under(0.5));
-/// assert_eq!(reading(3, 1, 1, 0, &picture)?, Reading::Level(1.0));
-/// assert_eq!(reading(3, 1, 2, 0, &picture)?, Reading::Over(1.0));
+/// let picture = [0, BLACK - 64, BLACK, WHITE, 128 * 250];
+/// assert_eq!(reading(5, 1, 0, 0, &picture)?, Reading::Under(16.0));
+/// assert_eq!(reading(5, 1, 1, 0, &picture)?, Reading::Under(0.5));
+/// assert_eq!(reading(5, 1, 2, 0, &picture)?, Reading::Level(16.0));
+/// assert_eq!(reading(5, 1, 3, 0, &picture)?, Reading::Level(235.0));
+/// assert_eq!(reading(5, 1, 4, 0, &picture)?, Reading::Over(15.0));
 /// # Ok(())
 /// # }
 /// ```

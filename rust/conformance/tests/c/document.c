@@ -245,7 +245,7 @@ static void steps(void)
 
 static void readings(void)
 {
-    const int32_t picture[3] = {-64, 128, 32768};
+    const int32_t picture[3] = {-64, 2176, 32768};
     uint8_t greys[4] = {9, 9, 9, 9};
     float floats[4] = {9, 9, 9, 9};
     straightener_reading_answer under = straightener_reading(3, 1, 0, 0, picture, 3);
@@ -257,10 +257,24 @@ static void readings(void)
     expect(outside.number == STRAIGHTENER_REFUSED_POINT && outside.kind == STRAIGHTENER_LEVEL && outside.greys == 0);
     expect(is(straightener_greys_out(3, 1, picture, 3, greys, 4), 0, 0, 0, 0));
     expect(is(straightener_floats_out(3, 1, picture, 3, floats, 4), 0, 0, 0, 0));
-    expect(greys[0] == 0 && greys[1] == 1 && greys[2] == 255 && greys[3] == 9);
-    expect(floats[0] == -0.5f && floats[1] == 1 && floats[2] == 256 && floats[3] == 9);
+    expect(greys[0] == 0 && greys[1] == 17 && greys[2] == 255 && greys[3] == 9);
+    expect(floats[0] == -0.5f && floats[1] == 17 && floats[2] == 256 && floats[3] == 9);
     printf("readings: Under %g, Level %g, Over %g; darkest %g, lightest %g\n", (double)under.greys,
            (double)level.greys, (double)over.greys, (double)summary.darkest, (double)summary.lightest);
+}
+
+/* Black and white themselves are Level; one unit past them is Under or Over by 1/128 grey. */
+static void video_range(void)
+{
+    const int32_t picture[4] = {STRAIGHTENER_BLACK - 1, STRAIGHTENER_BLACK, STRAIGHTENER_WHITE, STRAIGHTENER_WHITE + 1};
+    const uint32_t kinds[4] = {STRAIGHTENER_UNDER, STRAIGHTENER_LEVEL, STRAIGHTENER_LEVEL, STRAIGHTENER_OVER};
+    printf("from black to white:");
+    for (size_t column = 0; column < 4; column++) {
+        straightener_reading_answer reading = straightener_reading(4, 1, column, 0, picture, 4);
+        expect(reading.number == 0 && reading.kind == kinds[column]);
+        printf(" %g", (double)reading.greys);
+    }
+    printf("\n");
 }
 
 static void line_format(void)
@@ -284,6 +298,7 @@ int main(void)
     settings();
     steps();
     readings();
+    video_range();
     line_format();
     if (differences == 0)
         printf("all as documented\n");

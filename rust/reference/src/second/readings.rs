@@ -5,17 +5,20 @@ use super::{judge_samples, judge_size, refuse_if, Refused};
 /// The largest sample of a picture that is read, in units of 1/128 grey.
 const LARGEST_READ_SAMPLE: i32 = 1_048_576;
 
-/// The sample of the lightest grey, 255.
-const LIGHTEST: i32 = 32_640;
+/// Black of the video range, grey 16, as a sample.
+const BLACK: i32 = 16 * 128;
 
-/// A reading at a point: within 0 to 255 greys, below or above, each with its greys.
+/// White of the video range, grey 235, as a sample.
+const WHITE: i32 = 235 * 128;
+
+/// A reading at a point: from black to white, below black or above white, each with its greys.
 #[derive(Clone, Copy, Debug, PartialEq)]
 pub enum Reading {
     /// The sample's greys.
     Level(f32),
-    /// By how many greys the sample lies below 0.
+    /// By how many greys the sample lies below black.
     Under(f32),
-    /// By how many greys the sample lies above 255.
+    /// By how many greys the sample lies above white.
     Over(f32),
 }
 
@@ -76,12 +79,12 @@ pub fn reading(
     judge(width, height, picture, None)?;
     refuse_if(column >= width || row >= height, 7)?;
     let v = picture[row * width + column];
-    Ok(if v < 0 {
-        Reading::Under(greys(-v))
-    } else if v > LIGHTEST {
-        Reading::Over(greys(v - LIGHTEST))
-    } else {
+    Ok(if (BLACK..=WHITE).contains(&v) {
         Reading::Level(greys(v))
+    } else if v < BLACK {
+        Reading::Under(greys(BLACK - v))
+    } else {
+        Reading::Over(greys(v - WHITE))
     })
 }
 

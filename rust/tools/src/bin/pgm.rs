@@ -23,7 +23,7 @@ pgm picture                    writes the line program's answer as a PGM picture
 pgm png                        writes a PGM picture as PNG
 
 KERNEL is linear, keys or spline; STEP is 4,096 times the tangent of half the angle, -1697 to 1697;
-GREY is 0 (black) to 255 (white).
+GREY is 0 to 255; cameras with the video range write black as 16 and white as 235.
 Pictures and lines come in on standard input and go out on standard output.
 ";
 
