@@ -2,10 +2,10 @@
 //! its input or its output fails.
 #![cfg(feature = "library")]
 
-use conformance::files::{built, cases};
+use conformance::files::{built, cases, Temporary};
 use conformance::numbers::Numbers;
 use reference::second;
-use std::fs::File;
+use std::fs::{self, File};
 use std::io::{Read, Write};
 use std::os::fd::OwnedFd;
 use std::os::unix::net::UnixStream;
@@ -200,17 +200,17 @@ fn complaint(output: &Output) -> String {
     text
 }
 
-/// A file that holds one line to be straightened.
-fn one_line(name: &str) -> File {
-    let path = std::path::Path::new(env!("CARGO_TARGET_TMPDIR")).join(name);
-    std::fs::write(&path, b"000000000100010000000080\n").expect("a file");
-    File::open(path).expect("the file")
+/// A file that holds some lines. Its name goes with the folder that it is made in; what is open stays.
+fn file_of(name: &str, lines: &[u8]) -> File {
+    let folder = Temporary::new(name);
+    fs::write(folder.path("lines.txt"), lines).expect("a file can be written");
+    File::open(folder.path("lines.txt")).expect("the file is there")
 }
 
 #[test]
 fn a_full_device_is_told() {
     let full = File::options().write(true).open("/dev/full").expect("a full device");
-    let text = complaint(&run_on(one_line("full.txt"), full));
+    let text = complaint(&run_on(file_of("full", b"000000000100010000000080\n"), full));
     assert!(text.contains("standard output could not be written"), "{text}");
 }
 
@@ -253,9 +253,7 @@ fn an_output_that_does_not_wait_is_told() {
     theirs.set_nonblocking(true).expect("no waiting");
     let input: Vec<u8> = cases().into_iter().find(|case| case.name == "big2").expect("a large case").input;
     let input = [&input[..], b"\n"].concat().repeat(40);
-    let path = std::path::Path::new(env!("CARGO_TARGET_TMPDIR")).join("unwaiting.txt");
-    std::fs::write(&path, &input).expect("a file");
-    let output = run_on(File::open(path).expect("the file"), OwnedFd::from(theirs));
+    let output = run_on(file_of("unwaiting", &input), OwnedFd::from(theirs));
     assert!(complaint(&output).contains("standard output could not be written"));
     let mut taken = Vec::new();
     ours.read_to_end(&mut taken).expect("what was written");
@@ -269,6 +267,9 @@ fn an_output_that_nobody_reads_ends_the_program() {
     let mut running = running();
     drop(running.stdout.take());
     let mut input = running.stdin.take().expect("a pipe");
-    hand_over(&mut input, b"000000000100010000000080\n");
+    // A program that another test is just starting has the pipe open too, for a moment: so lines are handed
+    // over until this one takes no more, which a million lines outlast by far.
+    let _ = (0..1_000_000).try_for_each(|_| input.write_all(b"000000000100010000000080\n"));
+    drop(input);
     assert_eq!(running.wait().expect("the program ends").signal(), Some(13));
 }
