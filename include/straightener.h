@@ -43,9 +43,9 @@
 #include <stdint.h>
 
 /* The version of this header, as text and as its parts. */
-#define STRAIGHTENER_VERSION "0.3.0"
+#define STRAIGHTENER_VERSION "0.4.0"
 #define STRAIGHTENER_VERSION_MAJOR 0
-#define STRAIGHTENER_VERSION_MINOR 3
+#define STRAIGHTENER_VERSION_MINOR 4
 #define STRAIGHTENER_VERSION_PATCH 0
 
 #ifdef __cplusplus
@@ -144,16 +144,21 @@ typedef struct {
 
 /*
  * What most calls answer.
- *   number       0, or the refusal number
- *   row, column  under number 6 the place of the first sample beyond the range, else 0
- *   count        the number of lines interpolated, those that neither moved by whole samples nor
- *                became all background; a row that is interpolated in both its passes counts twice
+ *   number             0, or the refusal number
+ *   row, column        under number 6 the place of the first sample beyond the range, else 0
+ *   count              the number of lines interpolated, those that neither moved by whole samples nor
+ *                      became all background; a row that is interpolated in both its passes counts twice
+ *   smallest, largest  the smallest and the largest sample of the moved line or of the straightened
+ *                      picture, in units of 1/128 grey; 0 where the call is refused, and from
+ *                      straightener_greys_out and straightener_floats_out
  */
 typedef struct {
     uint32_t number;
     size_t row;
     size_t column;
     uint32_t count;
+    int32_t smallest;
+    int32_t largest;
 } straightener_answer;
 
 /* A changed setting under number 0, or the setting as it was under number 4. */
@@ -214,7 +219,8 @@ typedef struct {
  *                  samples may lie beyond +-32,767 but never beyond the +-1,048,576 of the readings
  *   work           at least straightener_work_places(width, height) places; so many are 0 afterwards,
  *                  under either border
- * Refuses under 1, 2, 3, 4, 5, 12, 6. The count is at most 2 * (height - 1) + (width - 1).
+ * Refuses under 1, 2, 3, 4, 5, 12, 6. The count is at most 2 * (height - 1) + (width - 1). The smallest
+ * and the largest sample are those of the result's width * height places.
  * Under either border no sample of the result lies further from the same three passes in exact fractions
  * than 3/2 units (kernel 0), 2 units (kernel 1) or 10 units (kernel 2) of 1/128 grey. The result is
  * exact where every line moves by whole samples, and for a picture of one grey whose border is wrapped
@@ -245,7 +251,9 @@ size_t straightener_work_places(size_t width, size_t height);
  *   work        at least straightener_line_work_places(n) places; so many are 0 afterwards, under either
  *               border
  * Refuses under 1, 2, 4, 5, 12, 6 (with row 0). The count is 1 if the line was interpolated, 0 if it moved
- * by whole samples or, on background, by n samples or more either way, which makes it all background.
+ * by whole samples or, on background, by n samples or more either way, which makes it all background. The
+ * smallest and the largest sample are those of the result's n places: where they lie beyond every sample
+ * of the line, and beyond the background, the kernel has overshot.
  */
 straightener_answer straightener_move_line(size_t n, uint32_t kernel, int32_t d,
                                            uint32_t border, int32_t background,
@@ -301,7 +309,7 @@ straightener_step straightener_level(int32_t x1, int32_t y1, int32_t x2, int32_t
  *   width, height  1 to 1,024
  *   picture        at least width * height places; samples within +-1,048,576
  *   greys          at least width * height places; so many receive the greys
- * Refuses under 1, 2, 6. The count is 0.
+ * Refuses under 1, 2, 6. The count, the smallest and the largest are 0.
  */
 straightener_answer straightener_greys_out(size_t width, size_t height,
                                            const int32_t *picture, size_t picture_len,
@@ -312,7 +320,7 @@ straightener_answer straightener_greys_out(size_t width, size_t height,
  *   width, height  1 to 1,024
  *   picture        at least width * height places; samples within +-1,048,576
  *   floats         at least width * height places; so many receive the floats
- * Refuses under 1, 2, 6. The count is 0.
+ * Refuses under 1, 2, 6. The count, the smallest and the largest are 0.
  */
 straightener_answer straightener_floats_out(size_t width, size_t height,
                                             const int32_t *picture, size_t picture_len,

@@ -4,11 +4,11 @@ use mathlib.Core.List.{List, [], _∷_}
 use lib.IntN.{ℤ, pos, negsuc}
 use lib.Ieee.{binary32, round, ofBits}
 use Rattle.arith.specs.Whole.{minℤ, maxℤ}
+use Rattle.lists.specs.Ends.{picked}
 use Rattle.refusals.specs.Tests.{badSide, badSize, short, beyondOf, firstFrom, firstBad}
 use Rattle.steps.specs.Step.{entry, S, sineOf}
 use Rattle.levelling.specs.Level.{outside, anyOutside, steep, directionOf, levelOf}
 use Rattle.readings.specs.Sample.{floatOf, readingOf}
-use Rattle.readings.specs.Ends.{picked}
 use Rattle.readings.specs.Answers.{judged, judgedPoint, readingAnswer, summaryAnswer}
 use Rattle.readings.specs.Answers.{outside as pointOutside}
 use Rattle.flat.specs.Exported.{ofVerdict, ofSine, ofLevelled, ofReading, ofSummary}
@@ -58,7 +58,7 @@ darkest-and-lightest = refl
 bad : List ℤ
 bad = pos 0 ∷ pos 0 ∷ pos 1048577 ∷ pos 0 ∷ []
 
-refused-verdict : ofVerdict (judged 2 2 4 bad) ≡ record { number = 6; row = 1; column = 0; count = 0 }
+refused-verdict : ofVerdict (judged 2 2 4 bad) ≡ record { number = 6; row = 1; column = 0; count = 0; smallest = pos 0; largest = pos 0 }
 unfolding bad judged badSize badSide short firstBad firstFrom beyondOf
 refused-verdict = refl
 

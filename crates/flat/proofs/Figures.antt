@@ -5,6 +5,7 @@ use mathlib.Core.Bool.{true, false}
 use mathlib.Core.List.{[], _∷_, map}
 use lib.IntN.{ℤ, pos}
 use lib.Ieee.{Float}
+use Rattle.lists.specs.declared.Extremes.{Extremes}
 use Rattle.refusals.specs.declared.Verdict.the-variants as verdict
 use Rattle.pictures.specs.declared.Outcome.the-variants as picture
 use Rattle.lines.specs.declared.LineOutcome.the-variants as line
@@ -17,13 +18,13 @@ use Rattle.flat.specs.Exported.{ofVerdict, ofOutcome, ofLine, ofSine, of
 
 -- ---- refused under a number, with a row and a column: these three, and every other figure 0
 module _ (n y x : ℕ) where
-  pub refused-verdict : ofVerdict (verdict.Refused n y x) ≡ record { number = n; row = y; column = x; count = 0 }
+  pub refused-verdict : ofVerdict (verdict.Refused n y x) ≡ record { number = n; row = y; column = x; count = 0; smallest = pos 0; largest = pos 0 }
   refused-verdict = refl
 
-  pub refused-picture : ofOutcome (picture.Refused n y x) ≡ record { number = n; row = y; column = x; count = 0 }
+  pub refused-picture : ofOutcome (picture.Refused n y x) ≡ record { number = n; row = y; column = x; count = 0; smallest = pos 0; largest = pos 0 }
   refused-picture = refl
 
-  pub refused-line : ofLine (line.Refused n y x) ≡ record { number = n; row = y; column = x; count = 0 }
+  pub refused-line : ofLine (line.Refused n y x) ≡ record { number = n; row = y; column = x; count = 0; smallest = pos 0; largest = pos 0 }
   refused-line = refl
 
   pub refused-reading : (greys : Float)
@@ -46,17 +47,22 @@ pub refused-answer : (n : ℕ) → ofWritten (written.Refused n) ≡ record { nu
 refused-answer n = refl
 
 -- ---- accepted: number, row and column 0
-pub accepted-verdict : ofVerdict verdict.Accepted ≡ record { number = 0; row = 0; column = 0; count = 0 }
+pub accepted-verdict : ofVerdict verdict.Accepted ≡ record { number = 0; row = 0; column = 0; count = 0; smallest = pos 0; largest = pos 0 }
 accepted-verdict = refl
 
-pub accepted-picture : (lines : ℕ) → ofOutcome (picture.Straightened lines) ≡ record { number = 0; row = 0; column = 0; count = lines }
-accepted-picture lines = refl
+-- with the extremes of what was written
+pub accepted-picture : (lines : ℕ) (extremes : Extremes)
+    → ofOutcome (picture.Straightened lines extremes)
+    ≡ record { number = 0; row = 0; column = 0; count = lines; smallest = extremes .smallest; largest = extremes .largest }
+accepted-picture lines extremes = refl
 
 -- a line counts 1 where it was interpolated, and 0 where it moved by whole samples
-pub accepted-line :
-    map ofLine (line.Moved true ∷ line.Moved false ∷ [])
-    ≡ record { number = 0; row = 0; column = 0; count = 1 } ∷ record { number = 0; row = 0; column = 0; count = 0 } ∷ []
-accepted-line = refl
+pub accepted-line : (extremes : Extremes)
+    → map ofLine (line.Moved true extremes ∷ line.Moved false extremes ∷ [])
+    ≡ record { number = 0; row = 0; column = 0; count = 1; smallest = extremes .smallest; largest = extremes .largest }
+    ∷ record { number = 0; row = 0; column = 0; count = 0; smallest = extremes .smallest; largest = extremes .largest }
+    ∷ []
+accepted-line extremes = refl
 
 pub accepted-sine : (s : ℤ) → ofSine (sine.Value s) ≡ record { number = 0; value = s }
 accepted-sine s = refl

@@ -2,7 +2,7 @@
 -- case. Assumes nothing.
 use Prim.Native.Nat.{ℕ, zero, suc}
 use mathlib.Core.Path.{_≡_}
-use lib.IntN.{ℤ}
+use lib.IntN.{ℤ, pos}
 use lib.Ieee.{Float}
 use Rattle.refusals.specs.declared.Verdict.{Verdict}
 use Rattle.refusals.specs.Judging as verdict
@@ -47,15 +47,31 @@ laidAs s c = record { kernel = c .kernel; cx = c .cx; cy = c .cy; a = c .a; b = 
 abbrev pub ofChange : FlatSetting → Change → FlatChange
 ofChange s c = record { number = c .number; setting = laidAs s (c .setting) }
 
--- a verdict alone interpolates no line
+-- a verdict alone interpolates no line and moves no sample
 abbrev pub ofVerdict : Verdict → Answer
-ofVerdict v = record { number = verdict.numberOf v; row = verdict.rowOf v; column = verdict.columnOf v; count = 0 }
+ofVerdict v = record { number = verdict.numberOf v; row = verdict.rowOf v; column = verdict.columnOf v; count = 0; smallest = pos 0; largest = pos 0 }
 
 abbrev pub ofOutcome : Outcome → Answer
-ofOutcome o = record { number = straightened.numberOf o; row = straightened.rowOf o; column = straightened.columnOf o; count = straightened.countOf o }
+ofOutcome o =
+    record {
+      number = straightened.numberOf o;
+      row = straightened.rowOf o;
+      column = straightened.columnOf o;
+      count = straightened.countOf o;
+      smallest = straightened.smallestOf o;
+      largest = straightened.largestOf o;
+    }
 
 abbrev pub ofLine : LineOutcome → Answer
-ofLine o = record { number = moved.numberOf o; row = moved.rowOf o; column = moved.columnOf o; count = moved.countOf o }
+ofLine o =
+    record {
+      number = moved.numberOf o;
+      row = moved.rowOf o;
+      column = moved.columnOf o;
+      count = moved.countOf o;
+      smallest = moved.smallestOf o;
+      largest = moved.largestOf o;
+    }
 
 abbrev pub ofSine : StepSine → Step
 ofSine s = record { number = sineNumber s; value = sineValue s }

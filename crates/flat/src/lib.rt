@@ -1,6 +1,7 @@
 // Settings and answers as C and Rust hold them: structs of numbers with C's layout. What a call answers as an enum, or takes as one, is laid
 // out flat. include/straightener.h says what each field means.
 ghost use mathlib.Core.Path.{_≡_};
+ghost use lib.IntN.{pos};
 ghost use Rattle.flat.specs.Exported.{borderOf, settingOf, laidAs, ofChange, ofVerdict, ofOutcome, ofLine, ofSine, ofLevelled, kindOf, greysOf, ofReading, ofSummary, ofWritten};
 use format::Written;
 use levelling::Levelled;
@@ -13,13 +14,16 @@ use settings::Setting;
 use steps::Change;
 use steps::StepSine;
 
-// What most calls answer: 0 or the refusal number, the row and the column under 6, and the number of lines interpolated.
+// What most calls answer: 0 or the refusal number, the row and the column under 6, the number of lines interpolated, and the smallest and the
+// largest sample of a moved line or a straightened picture.
 #[repr(C)]
 pub struct Answer {
     pub number: u32,
     pub row: usize,
     pub column: usize,
     pub count: u32,
+    pub smallest: i32,
+    pub largest: i32,
 }
 
 // A setting: `border` is 0 wrapped, and any other number background of the sample value `background`.
@@ -128,25 +132,29 @@ pub fn of_change(setting: FlatSetting, change: Change) -> FlatChange
 
 // ---- answers laid out flat
 
-pub fn accepted(count: u32) -> Answer
-    ensures { λ r. ⌜ r ≡ record { number = 0; row = 0; column = 0; count = count } ⌝ }
+pub fn accepted(count: u32, smallest: i32, largest: i32) -> Answer
+    ensures { λ r. ⌜ r ≡ record { number = 0; row = 0; column = 0; count = count; smallest = smallest; largest = largest } ⌝ }
 {
     Answer {
         number: 0,
         row: 0,
         column: 0,
         count,
+        smallest,
+        largest,
     }
 }
 
 pub fn refused(number: u32, row: usize, column: usize) -> Answer
-    ensures { λ r. ⌜ r ≡ record { number = number; row = row; column = column; count = 0 } ⌝ }
+    ensures { λ r. ⌜ r ≡ record { number = number; row = row; column = column; count = 0; smallest = pos 0; largest = pos 0 } ⌝ }
 {
     Answer {
         number,
         row,
         column,
         count: 0,
+        smallest: 0,
+        largest: 0,
     }
 }
 
@@ -154,7 +162,7 @@ pub fn of_verdict(verdict: Verdict) -> Answer
     ensures { λ r. ⌜ r ≡ ofVerdict verdict ⌝ }
 {
     match verdict {
-        Verdict::Accepted => accepted(0),
+        Verdict::Accepted => accepted(0, 0, 0),
         Verdict::Refused(number, row, column) => refused(number, row, column),
     }
 }
@@ -163,7 +171,9 @@ pub fn of_outcome(outcome: Outcome) -> Answer
     ensures { λ r. ⌜ r ≡ ofOutcome outcome ⌝ }
 {
     match outcome {
-        Outcome::Straightened(count) => accepted(count),
+        Outcome::Straightened(count, extremes) => {
+            accepted(count, extremes.smallest, extremes.largest)
+        }
         Outcome::Refused(number, row, column) => refused(number, row, column),
     }
 }
@@ -172,7 +182,9 @@ pub fn of_line(outcome: LineOutcome) -> Answer
     ensures { λ r. ⌜ r ≡ ofLine outcome ⌝ }
 {
     match outcome {
-        LineOutcome::Moved(interpolated) => accepted(interpolated as u32),
+        LineOutcome::Moved(interpolated, extremes) => {
+            accepted(interpolated as u32, extremes.smallest, extremes.largest)
+        }
         LineOutcome::Refused(number, row, column) => refused(number, row, column),
     }
 }

@@ -6,7 +6,9 @@ use native.Mathlib.Omega.{arith}
 use lib.IntN.{ℤ, pos}
 use lib.ListN.{length, take, drop, replicate, drop-of-length-le}
 use lib.Seq.{take-all}
+use Rattle.lists.specs.declared.Extremes.{Extremes}
 use Rattle.lists.specs.Tab.{tab}
+use Rattle.lists.specs.Ends.{extremesOf}
 use Rattle.lists.proofs.Tab.{tab-length}
 use Rattle.refusals.specs.declared.Verdict.the-variants as verdict
 use Rattle.refusals.specs.Judging.{whenAccepted}
@@ -29,7 +31,7 @@ pub record Called (l : List ℕ) (w h : ℕ) (s : Setting) (picture result work 
   pub filled : picture ≡ tab (sampleAt l) (w * h)
   pub result-places : length result ≡ w * h
   pub work-places : 12 * max w h ≤ length work
-  pub outcome : o ≡ outcomeOf (verdictOf w h s picture result work) (count (s .border) w h (rowMoves s) (columnMoves s))
+  pub outcome : o ≡ outcomeOf w h s picture result work result′
   pub written : result′
       ≡ whenAccepted (verdictOf w h s picture result work)
       (straighten (s .border) (answer.kernelIn s) w h (rowMoves s) (columnMoves s) (take (w * h) picture) ++ drop (w * h) result)
@@ -47,7 +49,7 @@ module _ {l : List ℕ} {w h : ℕ} {s : Setting} {picture result work result′
       rw (c .line .setting, c .result-places, c .filled, c .line .width, c .line .height)
       (verdict-accepted l (samplesIn l) (sizeIn l) (length work) (c .line .none) (omega (arith, tab-length (sampleAt l) (sizeIn l))) (omega arith) room (samples-within l fine))
 
-  says : o ≡ outcome.Straightened (count (s .border) w h (rowMoves s) (columnMoves s))
+  says : o ≡ outcome.Straightened (count (s .border) w h (rowMoves s) (columnMoves s)) (extremesOf (w * h) result′)
   says = c .outcome ∙ rw straighten-verdict refl
 
   pub samples-read : picture ≡ samplesIn l
@@ -63,9 +65,9 @@ module _ {l : List ℕ} {w h : ℕ} {s : Setting} {picture result work result′
   pub work-cleared : work′ ≡ replicate (workIn l) (pos 0) ++ drop (workIn l) work
   work-cleared = c .cleared ∙ rw (straighten-verdict, c .line .width, c .line .height) refl
 
-  pub accepted-text : (n : ℕ) → o ≡ outcome.Straightened n → acceptedText n w h result′ ≡ judgedText 0 l
+  pub accepted-text : (n : ℕ) (extremes : Extremes) → o ≡ outcome.Straightened n extremes → acceptedText n w h result′ ≡ judgedText 0 l
   unfolding judgedText countOf settingIn
-  accepted-text n e =
+  accepted-text n extremes e =
       let k : n ≡ count (s .border) w h (rowMoves s) (columnMoves s) = cc (says, e) in
       rw (k, straightened-is, c .line .setting, c .line .width, c .line .height) refl
 

@@ -30,7 +30,7 @@ fn straighten_in(
     fields::read_greys(line, picture);
     let outcome = pictures::straighten(w, h, setting, picture, result, work);
     match outcome {
-        Outcome::Straightened(count) => texts::accept(out, count, w, h, result),
+        Outcome::Straightened(count, _) => texts::accept(out, count, w, h, result),
         Outcome::Refused(number, row, column) => texts::refuse(out, number, row, column),
     }
 }

@@ -8,12 +8,15 @@ use native.Mathlib.Omega.{arith}
 use lib.Dec.{ltb}
 use lib.IntN.{ℤ, pos, natAbs}
 use lib.ListN.{length, getD, take, drop, replicate}
-use lib.Seq.{drop-at, drop-drop}
+use lib.Seq.{length-take-le, drop-at, drop-drop}
 use Rattle.arith.specs.Move.{fraction}
 use Rattle.arith.proofs.Within.{size-within}
 use Rattle.lists.specs.Line.{line, rolled}
+use Rattle.lists.specs.declared.Extremes.{Extremes}
+use Rattle.lists.specs.Ends.{extremesOf}
 use Rattle.lists.specs.Grid.{placed, lineOf, put}
 use Rattle.lists.proofs.Tab.{tab-ext, tab-take}
+use Rattle.lists.proofs.Ends.{extremes-first}
 use Rattle.lists.proofs.Grid.{put-front, put-cong}
 use Rattle.refusals.specs.declared.Verdict.the-variants as verdict
 use Rattle.refusals.specs.Tests.{badSide, short, badKernel, beyondOf, firstBad}
@@ -28,10 +31,10 @@ use Rattle.moves.specs.declared.Part.{Part}
 use Rattle.moves.specs.Border.{bordered, moveIn, badBackground, grey}
 use Rattle.moves.specs.InPlace.{prepared}
 use Rattle.moves.specs.Row.{places, setIn, startAt, held, Covers, loadedOf, weighedPart, Alike}
-use Rattle.moves.proofs.Border.{held-fraction, background-good}
+use Rattle.moves.proofs.Border.{moveIn-length, held-fraction, background-good}
 use Rattle.moves.proofs.Kept.{kept-in-place}
 use Rattle.lines.specs.declared.LineOutcome.the-variants.{Moved, Refused}
-use Rattle.lines.specs.Answer.{farthest, range, workPlaces, tooShort, judged, Movable, isInterpolated, outcomeBy, outcomeOf, LineMoved}
+use Rattle.lines.specs.Answer.{farthest, range, workPlaces, tooShort, judged, Movable, isInterpolated, outcomeOf, LineMoved}
 
 -- the work that number 2 asks for is what a caller is told, of every length that number 1 does not refuse
 pub work-asked : (n line result work : ℕ) → badSide n ≡ false → tooShort n line result work ≡ (short line n || (short result n || short work (workPlaces n)))
@@ -71,30 +74,43 @@ module _ (n kernel : ℕ) (d : ℤ) (β : Border) (line result work : List ℤ) 
   unfolding outcomeOf
   line-refused number row column e =
       record {
-        outcome = ap (λ v. outcomeBy v (isInterpolated β n d)) (sym e);
+        outcome = rw e refl;
         number = ap judging.numberOf (sym e);
         row = ap judging.rowOf (sym e);
         column = ap judging.columnOf (sym e);
         count = ap (λ v. whenAccepted v (cond (isInterpolated β n d) 1 0) 0) (sym e);
+        smallest = rw e refl;
+        largest = rw e refl;
         result = ap (λ v. whenAccepted v (moveIn β (kernelOf kernel) d (take n line) ++ drop n result) result) (sym e);
         work = ap (λ v. whenAccepted v (replicate (6 * n) (pos 0) ++ drop (6 * n) work) work) (sym e);
       }
 
-  pub line-moved : (result′ work′ : List ℤ) (interpolated : Bool) → judged n kernel d β line (length result) (length work) ≡ verdict.Accepted
-      → interpolated ≡ isInterpolated β n d → result′ ≡ moveIn β (kernelOf kernel) d (take n line) ++ drop n result
+  pub line-moved : (result′ work′ : List ℤ) (interpolated : Bool) (extremes : Extremes) → judged n kernel d β line (length result) (length work) ≡ verdict.Accepted
+      → interpolated ≡ isInterpolated β n d → extremes ≡ extremesOf n result′ → result′ ≡ moveIn β (kernelOf kernel) d (take n line) ++ drop n result
       → work′ ≡ replicate (6 * n) (pos 0) ++ drop (6 * n) work
-      → LineMoved n kernel d β line result work result′ work′ (Moved interpolated)
+      → LineMoved n kernel d β line result work result′ work′ (Moved interpolated extremes)
   unfolding outcomeOf
-  line-moved result′ work′ interpolated e i r w =
+  line-moved result′ work′ interpolated extremes e i x r w =
       record {
-        outcome = ap Moved i ∙ ap (λ v. outcomeBy v (isInterpolated β n d)) (sym e);
+        outcome = rw (e, i, x) refl;
         number = ap judging.numberOf (sym e);
         row = ap judging.rowOf (sym e);
         column = ap judging.columnOf (sym e);
         count = ap (λ b. cond b 1 0) i ∙ ap (λ v. whenAccepted v (cond (isInterpolated β n d) 1 0) 0) (sym e);
+        smallest = rw (e, moved) refl;
+        largest = rw (e, moved) refl;
         result = r ∙ ap (λ v. whenAccepted v (moveIn β (kernelOf kernel) d (take n line) ++ drop n result) result) (sym e);
         work = w ∙ ap (λ v. whenAccepted v (replicate (6 * n) (pos 0) ++ drop (6 * n) work) work) (sym e);
       }
+    where
+      m : Movable n kernel d β line (length result) (length work)
+      m = accepted n kernel d β line (length result) (length work) e
+
+      -- the extremes of the samples written are those of the moved line
+      moved : extremes ≡ extremesOf n (moveIn β (kernelOf kernel) d (take n line))
+      moved =
+          x ∙ ap (extremesOf n) r
+          ∙ extremes-first n (moveIn β (kernelOf kernel) d (take n line)) (drop n result) (m .some) (omega (arith, moveIn-length β (kernelOf kernel) d (take n line), length-take-le n line (m .line-room)))
 
 -- ---- the buffers
 -- the first n places of a line are the line from its first place on

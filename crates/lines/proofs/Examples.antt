@@ -1,20 +1,27 @@
--- Work places, verdicts on a line at the ends of each range and in the order of the numbers, and the figures of outcomes, worked out by the checker.
+-- Work places, verdicts on a line at the ends of each range and in the order of the numbers, the figures of outcomes and their extremes, worked out by
+-- the checker.
 -- Assumes nothing.
 use mathlib.Core.Path.{_≡_, refl}
-use mathlib.Core.List.{List, [], _∷_, map}
+use mathlib.Core.List.{List, [], _∷_, _++_, map}
 use Prim.Native.Nat.{ℕ}
 use lib.IntN.{ℤ, pos, negsuc}
 use lib.ListN.{replicate}
-use Rattle.arith.specs.Whole.{floor, remainder}
-use Rattle.arith.specs.Move.{fraction}
+use Rattle.arith.specs.Whole.{floor, remainder, round, minℤ, maxℤ}
+use Rattle.arith.specs.Sum.{Σ}
+use Rattle.arith.specs.Move.{fraction, whole}
+use Rattle.lists.specs.Tab.{tab}
+use Rattle.lists.specs.Line.{wrap}
+use Rattle.lists.specs.Ends.{picked}
 use Rattle.refusals.specs.declared.Verdict.{Verdict}
 use Rattle.refusals.specs.declared.Verdict.the-variants.{Accepted, Refused}
 use Rattle.refusals.specs.Tests.{badSide, short, badKernel, beyondOf, firstFrom, firstBad}
 use Rattle.settings.specs.declared.Border.{Border}
 use Rattle.settings.specs.declared.Border.the-variants.{Wrapped, Background}
-use Rattle.moves.specs.Border.{far, gone, fractionIn, badBackground}
+use Rattle.kernels.specs.Kernel.{weigh, Keys}
+use Rattle.moves.specs.Move.{first, mixed, source, moved}
+use Rattle.moves.specs.Border.{far, gone, fractionIn, bordered, moveIn, badBackground}
 use Rattle.lines.specs.declared.LineOutcome.{LineOutcome}
-use Rattle.lines.specs.Answer.{workPlaces, tooShort, judged, isInterpolated, outcomeOf, numberOf, rowOf, columnOf, countOf}
+use Rattle.lines.specs.Answer.{workPlaces, tooShort, judged, isInterpolated, outcomeOf, numberOf, rowOf, columnOf, countOf, smallestOf, largestOf}
 
 -- the work places of lengths at both ends, and of those one past each
 asked : map workPlaces (1 ∷ 7 ∷ 1024 ∷ 0 ∷ 1025 ∷ []) ≡ 6 ∷ 42 ∷ 6144 ∷ 0 ∷ 0 ∷ []
@@ -28,8 +35,9 @@ data Call : Type 0 where
 abbrev verdictOf : Call → Verdict
 verdictOf (call n kernel d β line result work) = judged n kernel d β line result work
 
-abbrev outcome : Call → LineOutcome
-outcome (call n kernel d β line result work) = outcomeOf n kernel d β line result work
+-- its outcome, where it leaves `left` in the result
+abbrev outcome : Call → List ℤ → LineOutcome
+outcome (call n kernel d β line result work) left = outcomeOf n kernel d β line result work left
 
 -- samples at either end of their range, and one past each
 abbrev ends : List ℤ
@@ -105,7 +113,7 @@ first-of-two = refl
 -- number, row, column and count: of a refused call, of a move by a 4,096th of a sample either way, of one by a whole sample, and on background of
 -- a move by N samples and a 4,096th, which leaves nothing to count, and of one by a 4,096th less than N
 abbrev figures : Call → List ℕ
-figures c = let r = outcome c in numberOf r ∷ rowOf r ∷ columnOf r ∷ countOf r ∷ []
+figures c = let r = outcome c [] in numberOf r ∷ rowOf r ∷ columnOf r ∷ countOf r ∷ []
 
 figures-of-outcomes :
     map figures
@@ -125,3 +133,19 @@ figures-of-outcomes :
     ∷ []
 unfolding outcomeOf isInterpolated fractionIn gone far fraction remainder floor judged tooShort badSide short badKernel badBackground beyondOf firstBad firstFrom
 figures-of-outcomes = refl
+
+-- the smallest and the largest output sample: a steep edge of 1,000 and 9,000 units, moved by half a sample under Keys, overshoots by 500 on either
+-- side, and what stands in the result past its n places is not looked at; of a refused call, whose result holds what it held, both are 0
+abbrev edge : List ℤ
+edge = pos 1000 ∷ pos 1000 ∷ pos 1000 ∷ pos 9000 ∷ pos 9000 ∷ pos 9000 ∷ []
+
+abbrev extremes : Call → List ℤ → List ℤ
+extremes c left = let r = outcome c left in smallestOf r ∷ largestOf r ∷ []
+
+extremes-of-outcomes :
+    extremes (call 6 1 (pos 2048) Wrapped edge 8 36) (moveIn Wrapped Keys (pos 2048) edge ++ (negsuc 6 ∷ pos 20000 ∷ []))
+    ∷ extremes (call 3 1 (pos 2048) Wrapped past 3 18) (pos 5 ∷ pos 6 ∷ pos 7 ∷ [])
+    ∷ []
+    ≡ (pos 500 ∷ pos 9500 ∷ []) ∷ (pos 0 ∷ pos 0 ∷ []) ∷ []
+unfolding outcomeOf picked minℤ maxℤ moveIn bordered moved source mixed first weigh Σ wrap tab round whole isInterpolated fractionIn gone far fraction remainder floor judged tooShort badSide short badKernel badBackground beyondOf firstBad firstFrom
+extremes-of-outcomes = refl

@@ -6,6 +6,8 @@ use Prim.Native.Nat.{ℕ, _*_, _≤_}
 use lib.Dec.{ltb}
 use lib.IntN.{ℤ, pos, natAbs}
 use lib.ListN.{length, take, drop, replicate}
+use Rattle.lists.specs.declared.Extremes.{Extremes}
+use Rattle.lists.specs.Ends.{extremesOf}
 use Rattle.refusals.specs.declared.Verdict.{Verdict}
 use Rattle.refusals.specs.declared.Verdict.the-variants as verdict
 use Rattle.refusals.specs.Tests.{badSide, short, badKernel, beyondOf, firstBad, AllWithin}
@@ -58,39 +60,54 @@ pub record Movable (n kernel : ℕ) (d : ℤ) (β : Border) (line : List ℤ) (r
 unfoldable pub isInterpolated : Border → ℕ → ℤ → Bool
 isInterpolated β n d = ltb 0 (fractionIn β n d)
 
-abbrev pub outcomeBy : Verdict → Bool → LineOutcome
-outcomeBy verdict.Accepted interpolated = Moved interpolated
-outcomeBy (verdict.Refused number row column) interpolated = Refused number row column
+abbrev pub outcomeBy : Verdict → Bool → Extremes → LineOutcome
+outcomeBy verdict.Accepted interpolated extremes = Moved interpolated extremes
+outcomeBy (verdict.Refused number row column) interpolated extremes = Refused number row column
 
-unfoldable pub outcomeOf : ℕ → ℕ → ℤ → Border → List ℤ → ℕ → ℕ → LineOutcome
-outcomeOf n kernel d β line result work = outcomeBy (judged n kernel d β line result work) (isInterpolated β n d)
+-- the outcome of a call that leaves `result₁`: its extremes are those of the first n samples there
+unfoldable pub outcomeOf : ℕ → ℕ → ℤ → Border → List ℤ → ℕ → ℕ → List ℤ → LineOutcome
+outcomeOf n kernel d β line result work result₁ = outcomeBy (judged n kernel d β line result work) (isInterpolated β n d) (extremesOf n result₁)
 
 -- document 01's figures of an outcome: an accepted call has number, row and column 0
 abbrev pub numberOf : LineOutcome → ℕ
-numberOf (Moved interpolated) = 0
+numberOf (Moved interpolated extremes) = 0
 numberOf (Refused number row column) = number
 
 abbrev pub rowOf : LineOutcome → ℕ
-rowOf (Moved interpolated) = 0
+rowOf (Moved interpolated extremes) = 0
 rowOf (Refused number row column) = row
 
 abbrev pub columnOf : LineOutcome → ℕ
-columnOf (Moved interpolated) = 0
+columnOf (Moved interpolated extremes) = 0
 columnOf (Refused number row column) = column
 
 -- an interpolated line counts 1
 abbrev pub countOf : LineOutcome → ℕ
-countOf (Moved interpolated) = cond interpolated 1 0
+countOf (Moved interpolated extremes) = cond interpolated 1 0
 countOf (Refused number row column) = 0
+
+-- the smallest and the largest output sample (Q-6), 0 where refused
+abbrev pub smallestOf : LineOutcome → ℤ
+smallestOf (Moved interpolated extremes) = extremes .smallest
+smallestOf (Refused number row column) = pos 0
+
+abbrev pub largestOf : LineOutcome → ℤ
+largestOf (Moved interpolated extremes) = extremes .largest
+largestOf (Refused number row column) = pos 0
 
 -- the call: its outcome, and what the result and the work hold afterwards, from `result₀` and `work₀`
 pub record LineMoved (n kernel : ℕ) (d : ℤ) (β : Border) (line result₀ work₀ result₁ work₁ : List ℤ) (r : LineOutcome) : Type 0 where
-  pub outcome : r ≡ outcomeOf n kernel d β line (length result₀) (length work₀)
+  pub outcome : r ≡ outcomeOf n kernel d β line (length result₀) (length work₀) result₁
   -- the figures are the verdict's, and refused the count is 0
   pub number : numberOf r ≡ judging.numberOf (judged n kernel d β line (length result₀) (length work₀))
   pub row : rowOf r ≡ judging.rowOf (judged n kernel d β line (length result₀) (length work₀))
   pub column : columnOf r ≡ judging.columnOf (judged n kernel d β line (length result₀) (length work₀))
   pub count : countOf r ≡ whenAccepted (judged n kernel d β line (length result₀) (length work₀)) (cond (isInterpolated β n d) 1 0) 0
+  -- accepted, the extremes are those of the moved line; refused, both are 0
+  pub smallest : smallestOf r
+      ≡ whenAccepted (judged n kernel d β line (length result₀) (length work₀)) (extremesOf n (moveIn β (kernelOf kernel) d (take n line)) .smallest) (pos 0)
+  pub largest : largestOf r
+      ≡ whenAccepted (judged n kernel d β line (length result₀) (length work₀)) (extremesOf n (moveIn β (kernelOf kernel) d (take n line)) .largest) (pos 0)
   -- accepted, the first n places hold the moved line
   pub result :
       result₁ ≡ whenAccepted (judged n kernel d β line (length result₀) (length work₀)) (moveIn β (kernelOf kernel) d (take n line) ++ drop n result₀) result₀

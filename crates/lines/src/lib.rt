@@ -1,5 +1,5 @@
-// The call that moves one line: it judges its input, moves the line by way of a row in its work, and clears its work. A kernel is 0 linear,
-// 1 Keys or 2 cubic spline; d is a move in 4,096ths of a sample.
+// The call that moves one line: it judges its input, moves the line by way of a row in its work, clears its work, and looks through the result for
+// its extremes. A kernel is 0 linear, 1 Keys or 2 cubic spline; d is a move in 4,096ths of a sample.
 ghost use mathlib.Core.Path.{_≡_};
 ghost use mathlib.Core.List.{_++_};
 ghost use Prim.Native.Nat.{_*_, _≤_};
@@ -9,6 +9,7 @@ ghost use Rattle.kernels.specs.Kernel.{kernelOf};
 ghost use Rattle.moves.specs.Border.{moveIn};
 ghost use Rattle.moves.specs.Row.{places};
 ghost use Rattle.lines.specs.Answer.{workPlaces, tooShort, judged, Movable, isInterpolated, LineMoved};
+use lists::Extremes;
 use refusals::Verdict;
 use settings::Border;
 
@@ -17,9 +18,10 @@ const FARTHEST: i32 = 4_194_304;
 
 const RANGE: i32 = 294_912;
 
-// What moving a line answers: whether it was interpolated, or the number of the refusal with its row and column.
+// What moving a line answers: whether it was interpolated, and its smallest and largest output sample; or the number of the refusal with its
+// row and column.
 pub enum LineOutcome {
-    Moved(bool),
+    Moved(bool, Extremes),
     Refused(u32, usize, usize),
 }
 
@@ -143,7 +145,8 @@ fn move_cleared(
 }
 
 // The first n samples of `line` moved by d/4,096 samples under a kernel and a border, into the first n places of `result`; the first 6n places
-// of `work` are used, and hold 0 afterwards. Refuses, and then writes nothing: 1 a length n of 0 or over 1,024; 2 a line or a result under n
+// of `work` are used, and hold 0 afterwards. Tells whether the line was interpolated, and the smallest and the largest of those n places of the
+// result. Refuses, and then writes nothing: 1 a length n of 0 or over 1,024; 2 a line or a result under n
 // places or a work under 6n; 4 a d beyond ±4,194,304; 5 a kernel over 2; 12 a background beyond ±32,767; 6 a sample beyond ±294,912, the first by
 // its column, in row 0.
 pub fn move_line(
@@ -160,14 +163,10 @@ pub fn move_line(
     let verdict = judge(n, kernel, d, border, line, result.len(), work.len());
     match verdict {
         Verdict::Refused(number, row, column) => LineOutcome::Refused(number, row, column),
-        Verdict::Accepted => LineOutcome::Moved(move_cleared(
-            n,
-            kernel,
-            d,
-            border,
-            line,
-            result,
-            work,
-        )),
+        Verdict::Accepted => {
+            let interpolated = move_cleared(n, kernel, d, border, line, result, work);
+            let extremes = lists::extremes_of(result, n);
+            LineOutcome::Moved(interpolated, extremes)
+        }
     }
 }

@@ -5,6 +5,7 @@
 --     Rows     a flat list of rows
 --     Part     a part put back, place by place
 --     Grid     a line read back, every other place and line unchanged, lines of one direction apart and covering, rows and columns
+--     Ends     the smallest is one of the samples and not above any, the largest likewise; those of the rows are those of the whole
 --     Table    a rule over a whole table, by one computed test
 pub mod Tab
 pub mod Fill
@@ -12,5 +13,6 @@ pub mod Cyclic
 pub mod Rows
 pub mod Part
 pub mod Grid
+pub mod Ends
 pub mod Table
 pub mod Examples

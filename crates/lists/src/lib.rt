@@ -4,8 +4,16 @@ ghost use mathlib.Core.List.{_++_};
 ghost use Prim.Native.Nat.{ℕ, _+_, _*_, _<_, _≤_};
 ghost use lib.ListN.{length, take, drop, replicate};
 ghost use lib.IntN.{pos};
+ghost use Rattle.arith.specs.Whole.{minℤ, maxℤ};
 ghost use Rattle.lists.specs.Line.{line, rolled};
 ghost use Rattle.lists.specs.Grid.{lineOf, put};
+ghost use Rattle.lists.specs.Ends.{extremesOf};
+
+// The smallest and the largest of some samples.
+pub struct Extremes {
+    pub smallest: i32,
+    pub largest: i32,
+}
 
 // The first n places of dst become those of src; later ones stay.
 pub fn copy(src: &[i32], dst: &mut [i32], n: usize)
@@ -88,4 +96,35 @@ pub fn store_line(
     store_part(picture, at, along, &samples[turn..]);
     let rest = n - run;
     store_part(picture, at + run * along, along, &samples[..rest]);
+}
+
+// The lesser of two samples.
+fn lesser(a: i32, b: i32) -> i32
+    ensures { λ r. ⌜ r ≡ minℤ a b ⌝ }
+{
+    if a <= b { a } else { b }
+}
+
+// The greater of two samples.
+fn greater(a: i32, b: i32) -> i32
+    ensures { λ r. ⌜ r ≡ maxℤ a b ⌝ }
+{
+    if a <= b { b } else { a }
+}
+
+// The smallest and the largest of the first n samples.
+pub fn extremes_of(samples: &[i32], n: usize) -> Extremes
+    requires { ⌜ (1 ≤ n) × (n ≤ length (now samples)) ⌝ }
+    ensures { λ r. ⌜ r ≡ extremesOf n (now (samples .entry)) ⌝ }
+{
+    let mut smallest = samples[0];
+    let mut largest = smallest;
+    let mut k: usize = 0;
+    while k < n {
+        let v = samples[k];
+        smallest = lesser(smallest, v);
+        largest = greater(largest, v);
+        k += 1;
+    }
+    Extremes { smallest, largest }
 }

@@ -1,12 +1,15 @@
 -- What makes up the answer of the three-pass call, refused and accepted. Assumes nothing.
-use Prim.Native.Nat.{ℕ, _+_, _*_, _≤_, _<_, max}
+use Prim.Native.Nat.{ℕ, _+_, _*_, _/_, _%_, _≤_, _<_, max}
 use mathlib.Core.Path.{_≡_, refl, sym, ap, _∙_, subst}
 use mathlib.Core.List.{List, _++_}
 use native.Mathlib.Omega.{arith}
 use lib.IntN.{ℤ, pos, natAbs}
 use lib.ListN.{length, take, drop, replicate}
 use lib.Seq.{getD-take, length-take-le, take-at}
+use Rattle.lists.specs.declared.Extremes.{Extremes}
 use Rattle.lists.specs.Line.{line}
+use Rattle.lists.specs.Ends.{extremesOf}
+use Rattle.lists.proofs.Ends.{smallest-rows, largest-rows}
 use Rattle.refusals.specs.declared.Verdict.{Verdict}
 use Rattle.refusals.specs.declared.Verdict.the-variants.{Accepted, Refused}
 use Rattle.refusals.specs.Judging as verdict
@@ -14,9 +17,9 @@ use Rattle.refusals.proofs.First.{BadAt}
 use Rattle.settings.specs.declared.Setting.{Setting}
 use Rattle.settings.specs.declared.Border.{Border}
 use Rattle.kernels.specs.Kernel.{Kernel}
-use Rattle.passes.specs.Picture.{picture, straighten, Places, rows-moved}
+use Rattle.passes.specs.Picture.{Picture, picture, straightened, straighten, Places, rows-moved}
 use Rattle.passes.specs.Count.{count}
-use Rattle.passes.proofs.Places.{inside, pictured-same}
+use Rattle.passes.proofs.Places.{inside, pictured-at, pictured-same}
 use Rattle.passes.proofs.Rows.{moved-row-alone}
 use Rattle.passes.proofs.Count.{count-bound}
 use Rattle.passes.proofs.Stages.{rows-pass, columns-pass, rows-pass-length, straighten-stages}
@@ -26,7 +29,7 @@ use Rattle.exact.proofs.Demand.{straighten-demand3}
 use Rattle.acceptance.specs.Judge.{range, Fit}
 use Rattle.acceptance.proofs.Accepted.{accepted-fit, fit-range, refused-sample, refused-zero}
 use Rattle.pictures.specs.declared.Outcome.{Outcome}
-use Rattle.pictures.specs.Answer.{numberOf, rowOf, columnOf, kernelIn, rowMoves, columnMoves, verdictOf, Answer}
+use Rattle.pictures.specs.Answer.{numberOf, rowOf, columnOf, kernelIn, rowMoves, columnMoves, thirdRows, verdictOf, Answer}
 use Rattle.pictures.specs.declared.Outcome.the-variants as variants
 
 -- ---- the places of the picture after its first W·H are not read
@@ -49,6 +52,12 @@ module _ (β : Border) (κ : Kernel) (W H : ℕ) (rows columns : ℕ → ℤ) (s
 
   pub straighten-length : length (straighten β κ W H rows columns s) ≡ W * H
   straighten-length = ap length (straighten-stages β κ rows columns s hW hH) ∙ rows-pass-length β κ W H rows _
+
+-- each sample that the call writes is one of a row of pass 3
+straighten-at : (β : Border) (κ : Kernel) (W H : ℕ) (rows columns : ℕ → ℤ) (s : List ℤ) (i : ℕ) → i < W * H
+    → line (straighten β κ W H rows columns s) i ≡ straightened β κ W H rows columns (picture W s) (i / W) (i % W)
+unfolding straighten
+straighten-at β κ W H rows columns s i l = pictured-at W H (straightened β κ W H rows columns (picture W s)) i l
 
 -- ---- the picture's copy, and the part of work that is lent, are fit too
 pub copy-fit : {W H : ℕ} {s : Setting} {picture : List ℤ} {result work : ℕ} (copy : List ℤ) (room : ℕ) → Fit W H s picture result work
@@ -81,6 +90,8 @@ module _ (W H : ℕ) (s : Setting) (picture result work : List ℤ) where
         row = rw e refl;
         column = rw e refl;
         count = rw e refl;
+        smallest = rw e refl;
+        largest = rw e refl;
         few = omega arith;
         written = rw e refl;
         readable = λ a. let z : _≡_ {A = ℕ} 0 1 = cc in absurd (omega arith);
@@ -88,18 +99,21 @@ module _ (W H : ℕ) (s : Setting) (picture result work : List ℤ) where
         demand3 = λ a. let z : _≡_ {A = ℕ} 0 1 = cc in absurd (omega arith);
       }
 
-  pub accepted-answer : (lines : ℕ) (result′ work′ : List ℤ) → verdictOf W H s picture result work ≡ Accepted
+  pub accepted-answer : (lines : ℕ) (extremes : Extremes) (result′ work′ : List ℤ) → verdictOf W H s picture result work ≡ Accepted
       → lines ≡ count (s .border) W H (rowMoves s) (columnMoves s)
+      → extremes ≡ extremesOf (W * H) result′
       → result′ ≡ straighten (s .border) (kernelIn s) W H (rowMoves s) (columnMoves s) (take (W * H) picture) ++ drop (W * H) result
       → work′ ≡ replicate (12 * max W H) (pos 0) ++ drop (12 * max W H) work
-      → Answer W H s picture result work (variants.Straightened lines) result′ work′
-  accepted-answer lines result′ work′ e counted done zero =
+      → Answer W H s picture result work (variants.Straightened lines extremes) result′ work′
+  accepted-answer lines extremes result′ work′ e counted found done zero =
       record {
-        outcome = rw (e, counted) refl;
+        outcome = rw (e, counted, found) refl;
         number = rw e refl;
         row = rw e refl;
         column = rw e refl;
         count = rw e counted;
+        smallest = rw (e, found) (sym (smallest-rows W H third (line result′) (f .width .0) (f .height .0) same));
+        largest = rw (e, found) (sym (largest-rows W H third (line result′) (f .width .0) (f .height .0) same));
         few = omega (arith, counted, count-bound (s .border) W H (s .cx) (s .cy) (s .a) (s .b) (f .centre .0) (f .centre .1));
         written = rw e done;
         readable = λ a i l. rw (sym (getD-take (W * H) result′ i (pos 0) l), first) (straighten-size β κ rows columns picture (f .width .0) (f .height .0) (f .background) in-range i l);
@@ -130,6 +144,13 @@ module _ (W H : ℕ) (s : Setting) (picture result work : List ℤ) where
           ap (take (W * H)) done
           ∙ take-at (straighten β κ W H rows columns (take (W * H) picture)) (drop (W * H) result) (W * H) (straighten-length β κ W H rows columns (take (W * H) picture) (f .width .0) (f .height .0))
           ∙ straighten-takes β κ W H rows columns picture (f .width .0) (f .height .0)
+
+      third : Picture
+      third = thirdRows W H s picture
+
+      -- the first W·H places of the result are the rows of pass 3, one after the other
+      same : (i : ℕ) → i < W * H → third (i / W) (i % W) ≡ line result′ i
+      same i l = sym (straighten-at β κ W H rows columns picture i l) ∙ ap (λ (t : List ℤ). line t i) (sym first) ∙ getD-take (W * H) result′ i (pos 0) l
 
 -- ---- the row and the column of an answer: those of the first sample beyond the range, in row order, under 6, and 0 otherwise
 six : (v : Verdict) → verdict.numberOf v ≡ 6 → v ≡ Refused 6 (verdict.rowOf v) (verdict.columnOf v)

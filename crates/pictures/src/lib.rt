@@ -1,7 +1,7 @@
 // The three-pass call: a grey picture straightened by three shears, of its rows, its columns and its rows again. Samples are in 128ths of
 // a grey, stored row by row, and shears in 4,096ths.
-// The tests read the picture once. An accepted picture is copied into the result and straightened there, four lines at a time by way of
-// `work`; docs/PERFORMANCE.md says what that costs.
+// The tests read the picture once, but for a row with a bad sample. An accepted picture is copied into the result and straightened there, four
+// lines at a time by way of `work`; then the result is looked through for its extremes. docs/PERFORMANCE.md says what that costs.
 ghost use mathlib.Core.Path.{_≡_};
 ghost use mathlib.Core.List.{_++_};
 ghost use Prim.Native.Nat.{_*_, max};
@@ -11,13 +11,14 @@ ghost use Rattle.passes.specs.Picture.{straighten};
 ghost use Rattle.passes.specs.Count.{count};
 ghost use Rattle.acceptance.specs.Judge.{Fit};
 ghost use Rattle.pictures.specs.Answer.{kernelIn, rowMoves, columnMoves, Answer};
+use lists::Extremes;
 use refusals::Verdict;
 use settings::Setting;
 
-// What a call comes to: straightened, with the number of lines interpolated; or refused under a number, with a row and a column that are 0
-// except under 6.
+// What a call comes to: straightened, with the number of lines interpolated and the smallest and the largest sample of the result; or refused
+// under a number, with a row and a column that are 0 except under 6.
 pub enum Outcome {
-    Straightened(u32),
+    Straightened(u32, Extremes),
     Refused(u32, usize, usize),
 }
 
@@ -75,7 +76,8 @@ fn straighten_accepted(
 }
 
 // Straightens a picture of `width` by `height` samples into `result`, with the kernel, the centre, the shears and the border of `setting`. `work` lends
-// 12·max(width, height) places, which hold 0 after it. It refuses, and writes nothing: 1 a side of 0 or over 1,024; 2 a picture or a result under
+// 12·max(width, height) places, which hold 0 after it. It tells the lines interpolated, and the smallest and the largest sample of the result. It
+// refuses, and writes nothing: 1 a side of 0 or over 1,024; 2 a picture or a result under
 // width·height places, or work under its own; 3 a centre outside the picture; 4 a shear beyond ±4,096; 5 an unknown kernel; 12 a background beyond
 // ±32,767, judged before 6; 6 a sample beyond ±32,767, with its row and column.
 pub fn straighten(
@@ -91,13 +93,10 @@ pub fn straighten(
     let verdict = acceptance::judge(width, height, setting, picture, result.len(), work.len());
     match verdict {
         Verdict::Refused(number, row, column) => Outcome::Refused(number, row, column),
-        Verdict::Accepted => Outcome::Straightened(straighten_accepted(
-            width,
-            height,
-            setting,
-            picture,
-            result,
-            work,
-        )),
+        Verdict::Accepted => {
+            let lines = straighten_accepted(width, height, setting, picture, result, work);
+            let extremes = lists::extremes_of(result, width * height);
+            Outcome::Straightened(lines, extremes)
+        }
     }
 }

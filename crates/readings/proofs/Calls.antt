@@ -9,13 +9,13 @@ use lib.ListN.{length, drop, getD}
 use lib.Ieee.{Float, binary32, ofBits}
 use Rattle.lists.specs.Tab.{tab}
 use Rattle.lists.specs.Line.{line}
+use Rattle.lists.specs.Ends.{smallest, largest}
 use Rattle.lists.proofs.Tab.{tab-place}
 use Rattle.refusals.specs.declared.Verdict.{Verdict}
 use Rattle.refusals.specs.declared.Verdict.the-variants.{Accepted, Refused}
 use Rattle.readings.specs.declared.Reading.{Reading}
 use Rattle.readings.specs.declared.Reading.the-variants.{Level}
 use Rattle.readings.specs.Sample.{floatOf, Exactly, readingOf}
-use Rattle.readings.specs.Ends.{smallest, largest}
 use Rattle.readings.specs.Answers.{range, judged, judgedPoint, Out, FloatsOut, sampleAt, readingAnswer, ReadingAt, summaryAnswer, SummaryOf}
 use Rattle.readings.proofs.Exact.{float-exact, zero-bits}
 use Rattle.readings.proofs.Cases.{reading-exact}

@@ -4,12 +4,12 @@ use mathlib.Core.List.{List, [], _∷_, map}
 use lib.IntN.{ℤ, pos, negsuc}
 use lib.Ieee.{binary32, round, toBits, ofBits}
 use Rattle.arith.specs.Whole.{floor, minℤ, maxℤ}
+use Rattle.lists.specs.Ends.{picked}
 use Rattle.refusals.specs.declared.Verdict.the-variants.{Accepted, Refused}
 use Rattle.refusals.specs.Tests.{badSide, badSize, short, beyondOf, firstFrom, firstBad}
 use Rattle.refusals.specs.Judging.{numberOf, rowOf, columnOf}
 use Rattle.readings.specs.declared.Reading.the-variants.{Level, Under, Over}
 use Rattle.readings.specs.Sample.{greyOf, floatOf, readingOf}
-use Rattle.readings.specs.Ends.{picked}
 use Rattle.readings.specs.Answers.{judged, outside, judgedPoint, readingAnswer, summaryAnswer}
 
 -- greys of -65, -64, 63, 64, 32,640 and 32,704: 64 units are the first of grey 1, and a grey is held to 0 to 255

@@ -9,6 +9,7 @@ use lib.ListN.{length, drop, getD}
 use lib.Ieee.{Float, binary32, ofBits}
 use Rattle.lists.specs.Tab.{tab}
 use Rattle.lists.specs.Line.{line}
+use Rattle.lists.specs.Ends.{smallest, largest}
 use Rattle.refusals.specs.declared.Verdict.{Verdict}
 use Rattle.refusals.specs.declared.Verdict.the-variants.{Accepted}
 use Rattle.refusals.specs.Tests.{badSize, short, firstBad}
@@ -17,7 +18,6 @@ use Rattle.readings.specs.declared.Reading.the-variants.{Level}
 use Rattle.readings.specs.declared.ReadingAnswer.{ReadingAnswer}
 use Rattle.readings.specs.declared.SummaryAnswer.{SummaryAnswer}
 use Rattle.readings.specs.Sample.{floatOf, Exactly, readingOf, ReadsExactly}
-use Rattle.readings.specs.Ends.{smallest, largest}
 
 -- the range of samples of any picture call that names none: ±1,048,576
 abbrev pub range : ℕ

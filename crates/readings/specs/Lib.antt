@@ -1,7 +1,5 @@
 -- Document 01, 'Readings'. Laws stand in proofs/.
 --     Sample    the forms that one sample is given in: grey, float, reading
---     Ends      the smallest and the largest of finitely many samples
 --     Answers   what each call answers, and what it leaves in a lent buffer
 pub mod Sample
-pub mod Ends
 pub mod Answers

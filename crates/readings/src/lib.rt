@@ -6,11 +6,9 @@ ghost use Prim.Native.Nat.{_*_, _≤_, min};
 ghost use mathlib.Core.List.{_++_};
 ghost use lib.ListN.{length, drop};
 ghost use lib.IntN.{natAbs};
-ghost use Rattle.arith.specs.Whole.{minℤ, maxℤ};
 ghost use Rattle.lists.specs.Tab.{tab};
 ghost use Rattle.lists.specs.Line.{line};
 ghost use Rattle.readings.specs.Sample.{greyOf, floatOf, readingOf};
-ghost use Rattle.readings.specs.Ends.{smallest, largest};
 ghost use Rattle.readings.specs.Answers.{range, judged, outside, judgedPoint, Out, FloatsOut, ReadingAt, SummaryOf};
 ghost use Rattle.refusals.specs.Tests.{AllWithin};
 use refusals::Verdict;
@@ -46,12 +44,6 @@ pub struct Summary {
 pub struct SummaryAnswer {
     pub verdict: Verdict,
     pub summary: Summary,
-}
-
-// The smallest and the largest sample of a picture.
-struct Extent {
-    low: i32,
-    high: i32,
 }
 
 // ---- one sample
@@ -91,20 +83,6 @@ fn read(v: i32) -> Reading
         return Reading::Over(float(v - WHITE));
     }
     Reading::Level(float(v))
-}
-
-// The lesser of two samples.
-fn lesser(a: i32, b: i32) -> i32
-    ensures { λ r. ⌜ r ≡ minℤ a b ⌝ }
-{
-    if a <= b { a } else { b }
-}
-
-// The greater of two samples.
-fn greater(a: i32, b: i32) -> i32
-    ensures { λ r. ⌜ r ≡ maxℤ a b ⌝ }
-{
-    if a <= b { b } else { a }
 }
 
 // ---- a picture
@@ -178,23 +156,6 @@ fn fill_floats(picture: &[i32], floats: &mut [f32], n: usize)
     }
 }
 
-// The smallest and the largest of the first n samples.
-fn extent_of(picture: &[i32], n: usize) -> Extent
-    requires { ⌜ (1 ≤ n) × (n ≤ length (now picture)) ⌝ }
-    ensures { λ r. ⌜ (r .low ≡ smallest (line (now (picture .entry))) n) × (r .high ≡ largest (line (now (picture .entry))) n) ⌝ }
-{
-    let mut low = picture[0];
-    let mut high = low;
-    let mut i: usize = 0;
-    while i < n {
-        let v = picture[i];
-        low = lesser(low, v);
-        high = greater(high, v);
-        i += 1;
-    }
-    Extent { low, high }
-}
-
 // ---- the calls
 
 // Greys out: the first W·H places of `greys` become the greys of the picture. Refusals 1, 2, 6.
@@ -262,12 +223,12 @@ pub fn summary_of(width: usize, height: usize, picture: &[i32]) -> SummaryAnswer
             },
         },
         Verdict::Accepted => {
-            let ends = extent_of(picture, height * width);
+            let extremes = lists::extremes_of(picture, height * width);
             SummaryAnswer {
                 verdict,
                 summary: Summary {
-                    darkest: float(ends.low),
-                    lightest: float(ends.high),
+                    darkest: float(extremes.smallest),
+                    lightest: float(extremes.largest),
                 },
             }
         }

@@ -1,14 +1,17 @@
 -- The first sample beyond its range. Nothing is found just where every sample of the picture is within the limit; a row and a column are
 -- found just where that sample is beyond it and every earlier one in row order is within. Assumes nothing.
-use Prim.Native.Nat.{ℕ, zero, suc, _+_, _*_, _/_, _%_, _<_}
+use Prim.Native.Nat.{ℕ, zero, suc, _+_, _*_, _-_, _/_, _%_, _≤_, _<_}
 use mathlib.Core.Path.{_≡_, refl, sym, ap, ap₂, _∙_, subst}
 use mathlib.Core.Bool.{Bool, true, false, cond}
 use mathlib.Core.List.{List, [], _∷_}
 use mathlib.Core.Logic.{_↔_}
 use native.Mathlib.Nat.{zero-add, not-suc-le-zero, le-of-suc-le-suc, add-suc, suc-add, add-zero, div-add-mod', mod-lt, div-lt-iff-lt-mul, mul-zero}
 use native.Mathlib.Omega.{arith}
+use borrow.Author.Tests.{ltb-true, ltb-false}
 use lib.Arith.{digits-div, digits-mod}
-use lib.ListN.{getD, take}
+use lib.Dec.{ltb}
+use lib.ListN.{getD, take, drop}
+use lib.Seq.{getD-take, getD-drop}
 use lib.IntN.{ℤ, pos, natAbs}
 use Rattle.refusals.specs.declared.Found.the-variants.{Nothing, At}
 use Rattle.refusals.specs.Tests.{beyondOf, firstFrom, firstBad, AllWithin}
@@ -92,6 +95,17 @@ module _ (limit width : ℕ) where
   from-at k zero y x s e = let z : _≡_ {A = ℕ} 0 1 = cc in absurd (omega arith)
   from-at k (suc n) y x [] e = let z : _≡_ {A = ℕ} 0 1 = cc in absurd (omega arith)
   from-at k (suc n) y x (v ∷ s) e = step k n y x v s (beyondOf limit v) refl e (from-at (suc k) n y x s)
+
+-- ---- the first a samples are within the limit, and so are the first n of the m that follow them
+pub within-then : (limit a n m : ℕ) (s : List ℤ) → n ≤ m → AllWithin limit a s → AllWithin limit n (take m (drop a s)) → AllWithin limit (a + n) s
+within-then limit a n m s few before after i l = by (ltb i a) refl
+  where
+    by : (b : Bool) → ltb i a ≡ b → natAbs (getD s i (pos 0)) ≤ limit
+    by true e = before i (ltb-true i a e)
+    by false e =
+        let h = ltb-false i a e in
+        let back : a + (i - a) ≡ i = omega arith in
+        rw (getD-take m (drop a s) (i - a) (pos 0) (omega arith), getD-drop a s (i - a) (pos 0), back) at (after (i - a) (omega arith))
 
 -- ---- pictures
 module _ (limit width height : ℕ) (s : List ℤ) where

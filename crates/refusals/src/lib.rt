@@ -4,7 +4,7 @@ ghost use mathlib.Core.Path.{_≡_};
 ghost use Prim.Native.Nat.{_*_, _≤_};
 ghost use lib.ListN.{length};
 ghost use lib.IntN.{natAbs};
-ghost use Rattle.refusals.specs.Tests.{badSide, badSize, beyondOf, firstBad, Limit};
+ghost use Rattle.refusals.specs.Tests.{badSide, badSize, beyondOf, firstBad, AllWithin, Limit};
 ghost use Rattle.refusals.specs.Judging.{ofFound};
 
 // What the tests say of a call: accepted, or refused under a number, with a row and a column that are 0 except under 6.
@@ -41,7 +41,26 @@ pub fn beyond(v: i32, limit: i32) -> bool
     limit < v || v < 0 - limit
 }
 
-// The first sample beyond plus or minus the limit, in row order. A line is scanned as a picture of height 1.
+// How many samples of a row are seen at once to be within plus or minus the limit: all of them, or none. A loop that never leaves early takes several
+// samples at a time; for a row of fewer than 8 that would not pay, and it is not looked at.
+fn seen_within(row: &[i32], limit: i32) -> usize
+    requires { ⌜ Limit limit ⌝ }
+    ensures { λ r. ⌜ (r ≤ length (now (row .entry))) × AllWithin (natAbs limit) r (now (row .entry)) ⌝ }
+{
+    if row.len() < 8 {
+        return 0;
+    }
+    let mut far = false;
+    let mut k: usize = 0;
+    while k < row.len() {
+        far = far | beyond(row[k], limit);
+        k += 1;
+    }
+    if far { 0 } else { row.len() }
+}
+
+// The first sample beyond plus or minus the limit, in row order: rows that are seen at once to be within it are passed over, the others walked. A
+// line is scanned as a picture of height 1.
 pub fn scan(picture: &[i32], width: usize, height: usize, limit: i32) -> Found
     requires { ⌜ (width ≤ 1024) × (height ≤ 1024) × (height * width ≤ length (now picture)) × Limit limit ⌝ }
     ensures { λ r. ⌜ r ≡ firstBad (natAbs limit) width height (now (picture .entry)) ⌝ }
@@ -50,9 +69,11 @@ pub fn scan(picture: &[i32], width: usize, height: usize, limit: i32) -> Found
     let mut row: usize = 0;
     let mut column: usize = 0;
     'rows: while row < height {
-        column = 0;
+        let start = row * width;
+        let end = start + width;
+        column = seen_within(&picture[start..end], limit);
         while column < width {
-            if beyond(picture[row * width + column], limit) {
+            if beyond(picture[start + column], limit) {
                 found = true;
                 break 'rows;
             }

@@ -1,7 +1,7 @@
 //! Calls that fill buffers, with what they were lent and what they left.
 
 use super::numbers::Numbers;
-use super::{Answer, Implementation};
+use super::{Answer, Extremes, Implementation};
 use reference::second::{Border, Setting};
 
 /// Backgrounds that are refused under number 12.
@@ -26,22 +26,27 @@ pub fn untouched_from(first: usize, buffer: &[i32]) -> bool {
 #[derive(Clone, Debug, PartialEq, Eq)]
 pub struct Outcome {
     pub answer: Answer,
+    pub extremes: Extremes,
     pub result: Vec<i32>,
     pub work: Vec<i32>,
 }
 
 impl Outcome {
-    /// Holds the buffers to the document: untouched where refused; else `places` of the result and
-    /// `work_places` of work written, work with 0, and no later place.
-    fn held_to_its_places(self, places: usize, work_places: usize) -> Outcome {
+    /// Holds the buffers and the extremes to the documents: untouched and 0 where refused; else `places` of the
+    /// result and `work_places` of work written, work with 0, and no later place, and the extremes those of
+    /// the samples written.
+    fn held_to_the_documents(self, places: usize, work_places: usize) -> Outcome {
         if self.answer.number != 0 {
             assert!(untouched_from(0, &self.result), "a refused call wrote to its result");
             assert!(untouched_from(0, &self.work), "a refused call wrote to its work");
+            assert_eq!(self.extremes, Extremes::default(), "a refused call told of extremes");
             return self;
         }
         assert!(untouched_from(places, &self.result), "a later place of the result was written");
         assert!(untouched_from(work_places, &self.work), "a later place of work was written");
         assert!(self.work[..work_places].iter().all(|&v| v == 0), "work was not left at 0");
+        let extremes = Extremes::of(&self.result[..places]);
+        assert_eq!(self.extremes, extremes, "the extremes are not those of the samples written");
         self
     }
 }
@@ -66,11 +71,11 @@ impl PictureCall {
     /// Makes the call.
     pub fn run(&self, implementation: &dyn Implementation) -> Outcome {
         let (mut result, mut work) = (buffer(self.result_length), buffer(self.work_length));
-        let answer =
+        let (answer, extremes) =
             implementation.straighten(self.size, self.setting, &self.picture, &mut result, &mut work);
         let (width, height) = self.size;
         let (places, work_places) = (width.wrapping_mul(height), width.max(height).wrapping_mul(12));
-        Outcome { answer, result, work }.held_to_its_places(places, work_places)
+        Outcome { answer, extremes, result, work }.held_to_the_documents(places, work_places)
     }
 
     /// A call on a small picture in which anything may be wrong.
@@ -135,8 +140,8 @@ impl LineCall {
     /// Makes the call.
     pub fn run(&self, implementation: &dyn Implementation) -> Outcome {
         let (mut result, mut work) = (buffer(self.result_length), buffer(self.work_length));
-        let answer = implementation.move_line(self, &mut result, &mut work);
-        Outcome { answer, result, work }.held_to_its_places(self.n, self.n.wrapping_mul(6))
+        let (answer, extremes) = implementation.move_line(self, &mut result, &mut work);
+        Outcome { answer, extremes, result, work }.held_to_the_documents(self.n, self.n.wrapping_mul(6))
     }
 
     /// A call on a short line in which anything may be wrong.

@@ -44,6 +44,22 @@ impl Answer {
     }
 }
 
+/// The smallest and the largest output sample of a call that moves lines, both 0 where it is refused.
+#[derive(Clone, Copy, Debug, Default, PartialEq, Eq)]
+pub struct Extremes {
+    pub smallest: i32,
+    pub largest: i32,
+}
+
+impl Extremes {
+    /// Those of some samples.
+    pub fn of(samples: &[i32]) -> Extremes {
+        let extremes = samples.iter().min().zip(samples.iter().max());
+        let (&smallest, &largest) = extremes.expect("a line or a picture has samples");
+        Extremes { smallest, largest }
+    }
+}
+
 /// The public calls of documents 01 and 02. Floats are compared by their bits, so they are answered as such.
 pub trait Implementation {
     fn straighten(
@@ -53,8 +69,8 @@ pub trait Implementation {
         picture: &[i32],
         result: &mut [i32],
         work: &mut [i32],
-    ) -> Answer;
-    fn move_line(&self, call: &LineCall, result: &mut [i32], work: &mut [i32]) -> Answer;
+    ) -> (Answer, Extremes);
+    fn move_line(&self, call: &LineCall, result: &mut [i32], work: &mut [i32]) -> (Answer, Extremes);
     fn work_places(&self, size: (usize, usize)) -> usize;
     fn line_work_places(&self, n: usize) -> usize;
     fn with_kernel(&self, setting: Setting, kernel: u32) -> Setting;

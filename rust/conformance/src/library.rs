@@ -1,17 +1,24 @@
 //! The proved library as one of the implementations.
 
 use crate::calls::LineCall;
-use crate::{Answer, Implementation};
+use crate::{Answer, Extremes, Implementation};
 use reference::second::{Border, Setting};
 use straightener::raw;
 
 /// The proved library.
 pub struct Library;
 
-impl From<raw::Answer> for Answer {
-    fn from(answer: raw::Answer) -> Answer {
-        Answer::of(answer.number, answer.row, answer.column, answer.count)
-    }
+/// The answer of a call that moves lines.
+fn moved(answer: raw::Answer) -> (Answer, Extremes) {
+    let raw::Answer { number, row, column, count, smallest, largest } = answer;
+    (Answer::of(number, row, column, count), Extremes { smallest, largest })
+}
+
+/// The answer of a call that moves none, and so has no extremes.
+fn unmoved(answer: raw::Answer) -> Answer {
+    let (answer, extremes) = moved(answer);
+    assert_eq!(extremes, Extremes::default(), "a call that moves nothing told of extremes");
+    answer
 }
 
 /// The library's form of a setting.
@@ -44,14 +51,14 @@ impl Implementation for Library {
         picture: &[i32],
         result: &mut [i32],
         work: &mut [i32],
-    ) -> Answer {
-        raw::straighten(width, height, raw_setting(setting), picture, result, work).into()
+    ) -> (Answer, Extremes) {
+        moved(raw::straighten(width, height, raw_setting(setting), picture, result, work))
     }
 
-    fn move_line(&self, call: &LineCall, result: &mut [i32], work: &mut [i32]) -> Answer {
+    fn move_line(&self, call: &LineCall, result: &mut [i32], work: &mut [i32]) -> (Answer, Extremes) {
         let &LineCall { n, kernel, d, ref line, .. } = call;
         let (border, background) = raw_border(call.border);
-        raw::move_line(n, kernel, d, border, background, line, result, work).into()
+        moved(raw::move_line(n, kernel, d, border, background, line, result, work))
     }
 
     fn work_places(&self, (width, height): (usize, usize)) -> usize {
@@ -95,11 +102,11 @@ impl Implementation for Library {
     }
 
     fn greys_out(&self, (width, height): (usize, usize), picture: &[i32], greys: &mut [u8]) -> Answer {
-        raw::greys_out(width, height, picture, greys).into()
+        unmoved(raw::greys_out(width, height, picture, greys))
     }
 
     fn floats_out(&self, (width, height): (usize, usize), picture: &[i32], floats: &mut [f32]) -> Answer {
-        raw::floats_out(width, height, picture, floats).into()
+        unmoved(raw::floats_out(width, height, picture, floats))
     }
 
     fn reading(

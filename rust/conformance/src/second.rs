@@ -1,8 +1,8 @@
 //! The second implementation as one of the implementations.
 
 use crate::calls::LineCall;
-use crate::{Answer, Implementation};
-use reference::second::{self, Border, Refused, Setting};
+use crate::{Answer, Extremes, Implementation};
+use reference::second::{self, Border, Refused, Setting, Told};
 
 /// The second implementation.
 pub struct Second;
@@ -13,6 +13,13 @@ fn answer(outcome: Result<u32, Refused>) -> Answer {
         Ok(count) => Answer::accepted(count),
         Err(refused) => Answer::of(refused.number, refused.row, refused.column, 0),
     }
+}
+
+/// The answer of a call that moves lines, with its extremes.
+fn moved(outcome: Result<Told, Refused>) -> (Answer, Extremes) {
+    let extremes = outcome
+        .map_or(Extremes::default(), |told| Extremes { smallest: told.smallest, largest: told.largest });
+    (answer(outcome.map(|told| told.count)), extremes)
 }
 
 /// A step or a shear with its number.
@@ -31,13 +38,13 @@ impl Implementation for Second {
         picture: &[i32],
         result: &mut [i32],
         work: &mut [i32],
-    ) -> Answer {
-        answer(second::straighten(width, height, setting, picture, result, work))
+    ) -> (Answer, Extremes) {
+        moved(second::straighten(width, height, setting, picture, result, work))
     }
 
-    fn move_line(&self, call: &LineCall, result: &mut [i32], work: &mut [i32]) -> Answer {
+    fn move_line(&self, call: &LineCall, result: &mut [i32], work: &mut [i32]) -> (Answer, Extremes) {
         let &LineCall { n, kernel, d, border, ref line, .. } = call;
-        answer(second::move_line(n, kernel, d, border, line, result, work))
+        moved(second::move_line(n, kernel, d, border, line, result, work))
     }
 
     fn work_places(&self, (width, height): (usize, usize)) -> usize {

@@ -19,6 +19,7 @@ for_both_implementations!(
     the_number_that_comes_first_on_a_line,
     reading_judges_samples_before_the_point,
     first_bad_sample_in_row_order,
+    one_bad_sample_in_a_wide_picture,
     sizes_at_their_edges,
     counts_are_by_definition,
 );
@@ -174,18 +175,48 @@ fn reading_judges_samples_before_the_point(implementation: &dyn Implementation) 
     assert_eq!(implementation.reading((2, 2), usize::MAX, 0, &[0; 4]), (Answer::refused(7), 0, 0));
 }
 
+/// At every place of pictures narrower and wider than the 8 samples from which on a row is judged at once.
 fn first_bad_sample_in_row_order(implementation: &dyn Implementation) {
-    for place in 0..35 {
-        let mut picture = vec![0; 35];
-        picture[place..].fill(i32::MIN);
-        let expected = Answer::of(6, place / 7, place % 7, 0);
-        let call = PictureCall::fitting((7, 5), Setting::default(), picture.clone());
-        assert_eq!(call.run(implementation).answer, expected);
-        assert_eq!(implementation.greys_out((7, 5), &picture, &mut [0; 35]), expected);
-        assert_eq!(implementation.floats_out((7, 5), &picture, &mut [0.0; 35]), expected);
-        assert_eq!(implementation.reading((7, 5), 0, 0, &picture), (expected, 0, 0));
-        assert_eq!(implementation.summary((7, 5), &picture), (expected, 0, 0));
+    for (width, height) in [(1, 5), (7, 5), (8, 4), (9, 4), (37, 3)] {
+        for place in 0..width * height {
+            let mut picture = vec![0; width * height];
+            picture[place..].fill(i32::MIN);
+            let expected = Answer::of(6, place / width, place % width, 0);
+            assert_refused_everywhere(implementation, (width, height), &picture, expected);
+        }
     }
+}
+
+/// A sample just past the range is found wherever it stands alone, and one at its end nowhere.
+fn one_bad_sample_in_a_wide_picture(implementation: &dyn Implementation) {
+    let (width, height) = (33, 2);
+    for (place, bad) in (0..66).flat_map(|place| [(place, 32_768), (place, -32_768)]) {
+        let mut picture = vec![0; 66];
+        picture[place] = bad;
+        let refused = PictureCall::fitting((width, height), Setting::default(), picture.clone());
+        let expected = Answer::of(6, place / width, place % width, 0);
+        assert_eq!(refused.run(implementation).answer, expected, "{bad} at {place}");
+        picture[place] -= bad.signum();
+        let accepted = PictureCall { picture: picture.clone(), ..refused };
+        assert_eq!(accepted.run(implementation).answer, Answer::accepted(0));
+        picture[place] = bad.signum() * 1_048_577;
+        assert_eq!(implementation.summary((width, height), &picture).0, expected, "{bad} at {place}");
+    }
+}
+
+/// Holds every call that takes a picture to one refusal.
+fn assert_refused_everywhere(
+    implementation: &dyn Implementation,
+    size: (usize, usize),
+    picture: &[i32],
+    expected: Answer,
+) {
+    let call = PictureCall::fitting(size, Setting::default(), picture.to_vec());
+    assert_eq!(call.run(implementation).answer, expected);
+    assert_eq!(implementation.greys_out(size, picture, &mut vec![0; picture.len()]), expected);
+    assert_eq!(implementation.floats_out(size, picture, &mut vec![0.0; picture.len()]), expected);
+    assert_eq!(implementation.reading(size, 0, 0, picture), (expected, 0, 0));
+    assert_eq!(implementation.summary(size, picture), (expected, 0, 0));
 }
 
 fn sizes_at_their_edges(implementation: &dyn Implementation) {

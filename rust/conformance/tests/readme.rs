@@ -1,4 +1,4 @@
-//! The programs that README shows, made and run as it says, and the readings that it lists.
+//! The programs that README shows, made and run as it says, and the readings and extremes that it lists.
 #![cfg(feature = "library")]
 
 use conformance::c::{done, WARNINGS};
@@ -7,7 +7,7 @@ use conformance::install::{flags, make};
 use conformance::tables::table;
 use std::fs;
 use std::process::Command;
-use straightener::Reading;
+use straightener::{move_line, Border, Kernel, Reading, BLACK, WHITE};
 
 /// The program in a language that a text shows.
 fn program<'a>(text: &'a str, language: &str) -> &'a str {
@@ -65,5 +65,48 @@ fn the_readings_of_samples() {
         assert_eq!(row[2], format!("{case} {}", f64::from(greys)), "sample {sample}");
         let grey = row[1].split(',').next().expect("a grey");
         assert_eq!(grey.parse(), Ok(f64::from(sample) / 128.0), "sample {sample}");
+    }
+}
+
+/// A sample as README writes it.
+fn row_sample(sample: i32) -> String {
+    format!("{},{:03}", sample / 1_000, sample % 1_000)
+}
+
+/// README's times of the kernels are those of docs/PERFORMANCE.md, to one digit after the point.
+#[test]
+fn the_times_of_the_kernels() {
+    let readme = table("README.md", "Kernel");
+    let measured = |head, column: usize| -> Vec<_> {
+        let rows = table("docs/PERFORMANCE.md", head).into_iter().take(readme.len());
+        rows.map(|row| {
+            assert_eq!(row[0], "1,024 by 1,024");
+            let time = row[column].strip_suffix(" ms").expect("a time").parse::<f64>().expect("a number");
+            (row[1].clone(), format!("{time:.1} ms"))
+        })
+        .collect()
+    };
+    let said =
+        |column: usize| readme.iter().map(|row| (row[0].clone(), row[column].clone())).collect::<Vec<_>>();
+    assert_eq!(said(2), measured("Picture | Kernel | Library", 2));
+    assert_eq!(said(3), measured("Picture | Kernel | Wrapped", 3));
+}
+
+#[test]
+fn the_overshoot_of_each_kernel() {
+    let edge = [[BLACK; 6], [WHITE; 6]].concat();
+    let rows = table("README.md", "Edge moved by");
+    let kernels = [("linear", Kernel::Linear), ("Keys", Kernel::Keys), ("cubic spline", Kernel::Spline)];
+    assert_eq!(rows.len(), kernels.len());
+    let said = format!("six samples of {} and six of {}, wrapped", row_sample(BLACK), row_sample(WHITE));
+    assert!(read("README.md").contains(&said), "the edge that README names");
+    for (row, (name, kernel)) in rows.iter().zip(kernels) {
+        let (mut result, mut work) = ([0; 12], [0; 72]);
+        let told = move_line(kernel, 2_048, Border::Wrapped, &edge, &mut result, &mut work).expect("a move");
+        let extremes = [told.smallest, told.largest];
+        assert_eq!(row[0], name);
+        assert_eq!([&row[1], &row[2]].map(|cell| cell.replace(',', "").parse()), extremes.map(Ok), "{name}");
+        let [darkest, lightest] = extremes.map(|sample| f64::from(sample) / 128.0);
+        assert_eq!(row[3], format!("{darkest:.1} to {lightest:.1}"), "{name}");
     }
 }

@@ -119,6 +119,27 @@ fn bounds_of_a_reading() {
     assert_eq!(with_commas(said)[..4], bounds, "docs/AMENDMENTS.md");
 }
 
+/// Whatever is said to be in parts of a grey is in 128ths of one.
+#[test]
+fn the_unit_of_a_sample() {
+    let rust = ["calls", "readings", "setting"].map(|file| format!("rust/straightener/src/{file}.rs"));
+    let [calls, readings, setting] = rust.each_ref().map(String::as_str);
+    let mut said = 0;
+    for file in
+        ["include/straightener.h", "README.md", "rust/straightener-sys/src/lib.rs", calls, readings, setting]
+    {
+        let text = read(file);
+        for before in text.split(" grey").filter(|before| before.ends_with(|c: char| c.is_ascii_digit())) {
+            let word = before.rsplit([' ', '\n']).next().unwrap_or_default();
+            if let Some(parts) = word.strip_prefix("1/") {
+                assert_eq!(parts, "128", "{file}");
+                said += 1;
+            }
+        }
+    }
+    assert!(said > 3, "the header says in which unit samples are");
+}
+
 /// The layout of a struct as `tests/c/layout.c` prints it: its size and the place of each field.
 macro_rules! layout {
     ($name:ident: $($field:ident)+) => {
@@ -134,7 +155,7 @@ macro_rules! layout {
 fn structs_are_laid_out_alike() {
     let expected = [
         layout!(Setting: kernel cx cy a b border background),
-        layout!(Answer: number row column count),
+        layout!(Answer: number row column count smallest largest),
         layout!(Change: number setting),
         layout!(Step: number value),
         layout!(ReadingAnswer: number row column kind greys),

@@ -2,7 +2,7 @@
 
 use conformance::calls::{untouched_from, LineCall, Outcome, PictureCall};
 use conformance::files::{border, cases, float_bits, fnv, list, number, numbers, value, vectors};
-use conformance::{for_both_implementations, Answer, Implementation};
+use conformance::{for_both_implementations, Answer, Extremes, Implementation};
 use reference::exact::{self, Whole};
 use reference::second::{self, Setting};
 
@@ -15,6 +15,7 @@ for_both_implementations!(
     pictures_on_background,
     picture_refusals,
     pictures_in_both_borders,
+    extremes,
     exact_pictures_in_both_borders,
     steps,
     settings,
@@ -117,12 +118,14 @@ fn line_refusals(implementation: &dyn Implementation) {
     }
 }
 
-/// Holds an outcome to `number= row= column= count= result= work_zero=`, where -7 is a place left
-/// untouched and a long result stands as its hash; an accepted call writes so many places of the result.
+/// Holds an outcome to `number= row= column= count= smallest= largest= result= work_zero=`, where -7 is a place
+/// left untouched and a long result stands as its hash; an accepted call writes so many places of the result.
 fn assert_recorded(outcome: &Outcome, places: usize, words: &[String]) {
     let figure = |key: &str| number::<usize>(value(words, key));
     let answer = (figure("number") as u32, figure("row"), figure("column"), figure("count") as u32);
     assert_eq!(outcome.answer, Answer::of(answer.0, answer.1, answer.2, answer.3));
+    let extreme = |key: &str| number(value(words, key));
+    assert_eq!(outcome.extremes, Extremes { smallest: extreme("smallest"), largest: extreme("largest") });
     let written = if answer.0 == 0 { places } else { 0 };
     assert!(untouched_from(written, &outcome.result));
     let mut result = outcome.result.clone();
@@ -135,28 +138,64 @@ fn assert_recorded(outcome: &Outcome, places: usize, words: &[String]) {
     assert_eq!(zeros, figure("work_zero"));
 }
 
+/// The line call of `key=value` words.
+fn named_line(words: &[String]) -> LineCall {
+    LineCall {
+        n: number(value(words, "N")),
+        kernel: number(value(words, "kernel")),
+        d: number(value(words, "d")),
+        border: border(value(words, "border")),
+        line: list(value(words, "line")),
+        result_length: number(value(words, "result_len")),
+        work_length: number(value(words, "work_len")),
+    }
+}
+
+/// The picture call of `key=value` words.
+fn named_picture(words: &[String]) -> PictureCall {
+    PictureCall {
+        size: named_size(words),
+        setting: named_setting(words),
+        picture: list(value(words, "picture")),
+        result_length: number(value(words, "result_len")),
+        work_length: number(value(words, "work_len")),
+    }
+}
+
 fn lines_in_both_borders(implementation: &dyn Implementation) {
     for (input, answer) in vectors("border_lines.txt", 259) {
-        let call = LineCall {
-            n: number(value(&input, "N")),
-            kernel: number(value(&input, "kernel")),
-            d: number(value(&input, "d")),
-            border: border(value(&input, "border")),
-            line: list(value(&input, "line")),
-            result_length: number(value(&input, "result_len")),
-            work_length: number(value(&input, "work_len")),
-        };
+        let call = named_line(&input);
         assert_recorded(&call.run(implementation), call.n, &answer);
     }
+}
+
+fn extremes(implementation: &dyn Implementation) {
+    for (input, answer) in vectors("extremes.txt", 133) {
+        let (outcome, places) = if input[0] == "move_line" {
+            let call = named_line(&input);
+            (call.run(implementation), call.n)
+        } else {
+            let call = named_picture(&input);
+            (call.run(implementation), call.size.0.wrapping_mul(call.size.1))
+        };
+        assert_recorded(&outcome, places, &answer);
+    }
+}
+
+/// Holds an accepted call to its count, its smallest and its largest sample, and all its samples.
+fn assert_straightened(call: &PictureCall, implementation: &dyn Implementation, words: &[String]) {
+    let outcome = call.run(implementation);
+    assert_eq!(outcome.answer, Answer::accepted(number(&words[0])), "{call:?}");
+    let extremes = Extremes { smallest: number(&words[1]), largest: number(&words[2]) };
+    assert_eq!(outcome.extremes, extremes, "{call:?}");
+    assert_eq!(outcome.result, numbers::<i32>(&words[3..]), "{call:?}");
 }
 
 fn pictures(implementation: &dyn Implementation) {
     for (input, answer) in vectors("pictures.txt", 210) {
         let size = (number(&input[5]), number(&input[6]));
         let call = PictureCall::fitting(size, setting(&input), numbers(&input[7..]));
-        let outcome = call.run(implementation);
-        assert_eq!(outcome.answer, Answer::accepted(number(&answer[0])), "{call:?}");
-        assert_eq!(outcome.result, numbers::<i32>(&answer[1..]), "{call:?}");
+        assert_straightened(&call, implementation, &answer);
     }
 }
 
@@ -165,9 +204,7 @@ fn pictures_on_background(implementation: &dyn Implementation) {
         let size = (number(&input[6]), number(&input[7]));
         let setting = setting(&input).with_border(border(&input[5]));
         let call = PictureCall::fitting(size, setting, numbers(&input[8..]));
-        let outcome = call.run(implementation);
-        assert_eq!(outcome.answer, Answer::accepted(number(&answer[0])), "{call:?}");
-        assert_eq!(outcome.result, numbers::<i32>(&answer[1..]), "{call:?}");
+        assert_straightened(&call, implementation, &answer);
     }
 }
 
@@ -188,13 +225,7 @@ fn picture_refusals(implementation: &dyn Implementation) {
 
 fn pictures_in_both_borders(implementation: &dyn Implementation) {
     for (input, answer) in vectors("border_pictures.txt", 262) {
-        let call = PictureCall {
-            size: named_size(&input),
-            setting: named_setting(&input),
-            picture: list(value(&input, "picture")),
-            result_length: number(value(&input, "result_len")),
-            work_length: number(value(&input, "work_len")),
-        };
+        let call = named_picture(&input);
         assert_recorded(&call.run(implementation), call.size.0.wrapping_mul(call.size.1), &answer);
     }
 }

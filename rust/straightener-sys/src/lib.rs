@@ -90,6 +90,10 @@ pub struct straightener_answer {
     pub column: usize,
     /// Lines interpolated.
     pub count: u32,
+    /// The smallest sample of the moved line or of the straightened picture, else 0.
+    pub smallest: i32,
+    /// The largest sample of the moved line or of the straightened picture, else 0.
+    pub largest: i32,
 }
 
 /// A changed setting, or the setting as it was under number 4.

@@ -11,6 +11,10 @@ pub struct Straightened {
     /// The number of lines interpolated, those that neither moved by whole samples nor became all
     /// background; a row that is interpolated in both its passes counts twice.
     pub count: u32,
+    /// The smallest sample of the result.
+    pub smallest: i32,
+    /// The largest sample of the result.
+    pub largest: i32,
 }
 
 /// What moving a line tells beside the line.
@@ -19,6 +23,12 @@ pub struct Straightened {
 pub struct Moved {
     /// Whether the line was interpolated, that is, neither moved by whole samples nor became all background.
     pub interpolated: bool,
+    /// The smallest sample of the result: below every sample of the line only where the kernel overshoots, or
+    /// a darker background comes in.
+    pub smallest: i32,
+    /// The largest sample of the result: above every sample of the line only where the kernel overshoots, or a
+    /// lighter background comes in.
+    pub largest: i32,
 }
 
 /// The places of work that [`straighten`] takes: 12 for each sample of the longer side, or 0 for a size that
@@ -62,6 +72,7 @@ pub fn line_work_places(length: usize) -> usize {
 /// let mut work = vec![0; work_places(3, 3)];
 /// let told = straighten(3, 3, setting, &[1, 2, 3, 4, 5, 6, 7, 8, 9], &mut result, &mut work)?;
 /// assert_eq!((result, told.count), ([7, 4, 1, 8, 5, 2, 9, 6, 3], 0));
+/// assert_eq!((told.smallest, told.largest), (1, 9));
 /// # Ok(())
 /// # }
 /// ```
@@ -75,7 +86,7 @@ pub fn straighten(
 ) -> Result<Straightened, Refusal> {
     let answer = raw::straighten(width, height, setting.into(), picture, result, work);
     accepted(answer.number, answer.row, answer.column)?;
-    Ok(Straightened { count: answer.count })
+    Ok(Straightened { count: answer.count, smallest: answer.smallest, largest: answer.largest })
 }
 
 /// Straightens a picture into a new one; refused as [`straighten`] is.
@@ -121,8 +132,9 @@ pub fn straightened(
 /// use straightener::{line_work_places, move_line, Border, Kernel};
 ///
 /// let (line, mut result, mut work) = ([0, 0, 16, 0], [0; 4], vec![0; line_work_places(4)]);
-/// assert!(move_line(Kernel::Keys, -2_048, Border::Wrapped, &line, &mut result, &mut work)?.interpolated);
-/// assert_eq!(result, [-1, 9, 9, -1]);
+/// let told = move_line(Kernel::Keys, -2_048, Border::Wrapped, &line, &mut result, &mut work)?;
+/// assert_eq!((result, told.interpolated), ([-1, 9, 9, -1], true));
+/// assert_eq!((told.smallest, told.largest), (-1, 9));
 ///
 /// let grey = Border::Background(100);
 /// assert!(move_line(Kernel::Keys, -2_048, grey, &line, &mut result, &mut work)?.interpolated);
@@ -143,7 +155,7 @@ pub fn move_line(
     let (border, background) = border.numbers();
     let answer = raw::move_line(line.len(), kernel.number(), d, border, background, line, result, work);
     accepted(answer.number, answer.row, answer.column)?;
-    Ok(Moved { interpolated: answer.count == 1 })
+    Ok(Moved { interpolated: answer.count == 1, smallest: answer.smallest, largest: answer.largest })
 }
 
 /// S(t), in 4,096ths: the shear of the columns at step t, from -1,697 to 1,697.

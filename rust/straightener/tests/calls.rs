@@ -127,3 +127,16 @@ fn the_longest_answer_fits() {
     let line = [&b"0000000040004000000000"[..], &[b'8'; 8_192]].concat();
     assert_eq!(answer_line(&line).map(|answer| answer.len()), Ok(32_783));
 }
+
+#[test]
+fn the_extremes_are_those_of_the_result() {
+    let (line, mut result, mut work) = ([[1_000; 3], [9_000; 3]].concat(), [0; 9], [0; 36]);
+    let told = move_line(Kernel::Keys, 2_048, Border::Wrapped, &line, &mut result, &mut work);
+    let told = told.expect("a line that is moved");
+    assert_eq!(result, [5_000, 500, 500, 5_000, 9_500, 9_500, 0, 0, 0]);
+    assert_eq!((told.smallest, told.largest, told.interpolated), (500, 9_500, true));
+    let setting = Setting::new().with_border(Border::Background(-7)).with_shears(4_096, 0);
+    let (result, told) = straightened(2, 2, setting, &[5, 6, 8, 9]).expect("a picture that is straightened");
+    assert_eq!(result, [5, 6, -7, -7]);
+    assert_eq!((told.smallest, told.largest, told.count), (-7, 6, 0));
+}

@@ -76,7 +76,7 @@ returns : tie.Need-returns
 returns c =
     let t = c .before .before .before .before .before .before .before .before .before .before in
     record {
-      text = rw (accepted-text (called t) _ (c .before .before .before .before .before .before .outcome .given .1)) at (c .before .before .accept .ensures);
+      text = rw (accepted-text (called t) _ _ (c .before .before .before .before .before .before .outcome .given .1)) at (c .before .before .accept .ensures);
       samples = samples-read (called t);
       straightened = straightened-is (called t);
       cleared = work-cleared (called t);

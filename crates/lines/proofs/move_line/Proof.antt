@@ -1,5 +1,6 @@
 -- `lines::move_line` meets its contract: refused, nothing is written; accepted, the tests give what moving the line asks. Assumes nothing.
 use mathlib.Core.Path.{_≡_, sym, _∙_}
+use native.Mathlib.Omega.{arith}
 use borrow.Author.Needs.{needs}
 use lib.ListN.{length}
 use mir.Facts.{toZ-ofZ}
@@ -34,6 +35,14 @@ move-cleared-requires c κs =
     rw (toZ-ofZ (t .before .before .before .fits .d))
     (accepted (a .n) (a .kernel) (a .d) (a .border) (a .line .now) (length (a .result .now)) (length (a .work .now)) (accepted-is t))
 
+extremes-of-requires : tie.Need-extremes-of-requires
+extremes-of-requires c κs =
+    let m = c .before .before .before in
+    let t = m .before .before .before in
+    let a = t .before .before .before .args in
+    let f = accepted (a .n) (a .kernel) (a .d) (a .border) (a .line .now) (length (a .result .now)) (length (a .work .now)) (accepted-is t) in
+    (f .some, omega (arith, f .result-room, m .move-cleared .kept .1 .1 .1 .1 .1 .0))
+
 returns : tie.Need-returns
 returns c =
     let v = c .before in
@@ -48,11 +57,11 @@ same-length-2 c = search needs
 
 returns-2 : tie.Need-returns-2
 returns-2 c =
-    let m = c .before .before in
+    let m = c .before .before .before .before in
     let t = m .before .before .before in
     let a = t .before .before .before .args in
     let e = rw (toZ-ofZ (t .before .before .before .fits .d)) at (m .move-cleared .ensures) in
-    line-moved (a .n) (a .kernel) (a .d) (a .border) (a .line .now) (a .result .now) (a .work .now) _ _ _ (accepted-is t) (e .0) (e .1 .0) (e .1 .1)
+    line-moved (a .n) (a .kernel) (a .d) (a .border) (a .line .now) (a .result .now) (a .work .now) _ _ _ _ (accepted-is t) (e .0) (c .extremes-of .ensures) (e .1 .0) (e .1 .1)
 
 pub move-line-spec : {M : Type 1} → statement M
 move-line-spec =
@@ -62,6 +71,7 @@ move-line-spec =
     enum-known-verdict
     enum-told
     move-cleared-requires
+    extremes-of-requires
     returns
     same-length
     same-length-2

@@ -1,10 +1,20 @@
 -- `straighten` answers as the tests say. Assumes nothing.
 use mathlib.Core.Path.{sym, _∙_}
+use native.Mathlib.Nat.{mul-le-mul, mul-pos}
+use native.Mathlib.Omega.{arith}
 use borrow.Author.Needs.{needs}
+use lib.ListN.{length}
+use Rattle.acceptance.specs.Judge.{Fit}
 use Rattle.acceptance.proofs.Accepted.{accepted-fit}
 use Rattle.pictures.proofs.Call.{refused-answer, accepted-answer}
 use Rattle.pictures.proofs.straighten.Statement.{statement}
 use Rattle.pictures.proofs.straighten.Tie as tie
+
+-- an accepted call is fit
+fit : (c : tie.After-enum-told) → let a = c .before .before .before .args in Fit (a .width) (a .height) (a .setting) (a .picture .now) (length (a .result .now)) (length (a .work .now))
+fit c =
+    let a = c .before .before .before .args in
+    accepted-fit (a .width) (a .height) (a .setting) (a .picture .now) _ _ (sym (c .before .before .judge .ensures) ∙ c .enum-told .given .1)
 
 judge-requires : tie.Need-judge-requires
 judge-requires c κs = search needs
@@ -16,9 +26,18 @@ enum-told : tie.Need-enum-told
 enum-told c = search needs
 
 straighten-accepted-requires : tie.Need-straighten-accepted-requires
-straighten-accepted-requires c κs =
-    let a = c .before .before .before .before .before .args in
-    accepted-fit (a .width) (a .height) (a .setting) (a .picture .now) _ _ (sym (c .before .before .before .before .judge .ensures) ∙ c .before .before .enum-told .given .1)
+straighten-accepted-requires c κs = fit (c .before .before)
+
+mul-extremes-of : tie.Need-mul-extremes-of
+mul-extremes-of c =
+    let f = fit (c .before .before .before .before .before .before) in
+    omega (arith, mul-le-mul (f .width .1) (f .height .1))
+
+extremes-of-requires : tie.Need-extremes-of-requires
+extremes-of-requires c κs =
+    let v = c .before .before .before in
+    let f = fit (v .before .before .before) in
+    (mul-pos (f .width .0) (f .height .0), omega (arith, f .result-places, v .straighten-accepted .kept .1 .1 .1 .1 .0))
 
 returns : tie.Need-returns
 returns c =
@@ -34,10 +53,12 @@ same-length-2 c = search needs
 
 returns-2 : tie.Need-returns-2
 returns-2 c =
-    let a = c .before .before .before .before .before .before .before .before .args in
-    let v = c .before .before .straighten-accepted in
-    accepted-answer (a .width) (a .height) (a .setting) (a .picture .now) (a .result .now) (a .work .now) _ _ _
-    (sym (c .before .before .before .before .before .before .before .judge .ensures) ∙ c .before .before .before .before .before .enum-told .given .1) (v .ensures .1 .1) (v .ensures .0) (v .ensures .1 .0)
+    let v = c .before .before .before .before in
+    let t = v .before .before .before in
+    let a = t .before .before .before .args in
+    let e = v .straighten-accepted .ensures in
+    accepted-answer (a .width) (a .height) (a .setting) (a .picture .now) (a .result .now) (a .work .now) _ _ _ _
+    (sym (t .before .before .judge .ensures) ∙ t .enum-told .given .1) (e .1 .1) (c .extremes-of .ensures) (e .0) (e .1 .0)
 
 pub straighten-spec : {M : Type 1} → statement M
 straighten-spec =
@@ -47,6 +68,8 @@ straighten-spec =
     enum-known-verdict
     enum-told
     straighten-accepted-requires
+    mul-extremes-of
+    extremes-of-requires
     returns
     same-length
     same-length-2

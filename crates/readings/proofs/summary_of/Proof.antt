@@ -3,14 +3,14 @@
 use Prim.Native.Nat.{_*_, _≤_}
 use native.Mathlib.Omega.{arith}
 use borrow.Author.Needs.{needs}
-use mathlib.Core.Path.{sym, _∙_, subst}
+use mathlib.Core.Path.{sym, ap, _∙_, subst}
 use lib.IntN.{natAbs}
 use lib.ListN.{length}
 use mir.Syntax.{w32}
 use Rattle.arith.proofs.Machine.{read-back}
 use Rattle.lists.specs.Line.{line}
+use Rattle.lists.proofs.Ends.{smallest-is, largest-is, extreme-within}
 use Rattle.readings.specs.Answers.{range}
-use Rattle.readings.proofs.Ends.{smallest-is, largest-is, end-within}
 use Rattle.readings.proofs.Passed.{Passed, passed}
 use Rattle.readings.proofs.Calls.{summary-refused, summary-accepted}
 use Rattle.readings.proofs.summary_of.Statement.{statement}
@@ -22,19 +22,19 @@ accepted : (c : tie.After-enum-told2) →
 accepted c = passed _ _ _ _ (sym (c .before .before .judge .ensures) ∙ c .enum-told2 .given .1)
 
 -- and so are the smallest and the largest
-low-size : (c : tie.After-extent-of) → natAbs (c .extent-of .result .low) ≤ 2 * range
+low-size : (c : tie.After-extremes-of) → natAbs (c .extremes-of .result .smallest) ≤ 2 * range
 low-size c =
     let a = c .before .before .before .before .args in
     let p = accepted (c .before) in
     let e = smallest-is (line (a .picture .now)) (a .height * a .width) (p .some) in
-    subst (λ v. natAbs v ≤ 2 * range) (sym (c .extent-of .ensures .0)) (omega (arith, end-within _ range _ (a .picture .now) _ e (p .within)))
+    subst (λ v. natAbs v ≤ 2 * range) (sym (ap (λ x. x .smallest) (c .extremes-of .ensures))) (omega (arith, extreme-within _ range _ (a .picture .now) _ e (p .within)))
 
-high-size : (c : tie.After-extent-of) → natAbs (c .extent-of .result .high) ≤ 2 * range
+high-size : (c : tie.After-extremes-of) → natAbs (c .extremes-of .result .largest) ≤ 2 * range
 high-size c =
     let a = c .before .before .before .before .args in
     let p = accepted (c .before) in
     let e = largest-is (line (a .picture .now)) (a .height * a .width) (p .some) in
-    subst (λ v. natAbs v ≤ 2 * range) (sym (c .extent-of .ensures .1)) (omega (arith, end-within _ range _ (a .picture .now) _ e (p .within)))
+    subst (λ v. natAbs v ≤ 2 * range) (sym (ap (λ x. x .largest) (c .extremes-of .ensures))) (omega (arith, extreme-within _ range _ (a .picture .now) _ e (p .within)))
 
 judge-requires : tie.Need-judge-requires
 judge-requires c κs = search needs
@@ -45,21 +45,21 @@ enum-told c = search needs
 enum-told-2 : tie.Need-enum-told-2
 enum-told-2 c = search needs
 
-mul-extent-of : tie.Need-mul-extent-of
-mul-extent-of c = omega (arith, accepted c .few)
+mul-extremes-of : tie.Need-mul-extremes-of
+mul-extremes-of c = omega (arith, accepted c .few)
 
-extent-of-requires : tie.Need-extent-of-requires
-extent-of-requires c κs = (accepted c .some, accepted c .room)
+extremes-of-requires : tie.Need-extremes-of-requires
+extremes-of-requires c κs = (accepted c .some, accepted c .room)
 
 float-requires : tie.Need-float-requires
 float-requires c κs =
     let k = c .before in
-    subst (λ v. natAbs v ≤ 2 * range) (sym (read-back w32 (k .extent-of .result .low) (c .struct-told .given .0 .1))) (low-size k)
+    subst (λ v. natAbs v ≤ 2 * range) (sym (read-back w32 (k .extremes-of .result .smallest) (c .struct-told .given .0 .1))) (low-size k)
 
 float-requires-2 : tie.Need-float-requires-2
 float-requires-2 c κs =
     let k = c .before .before .before in
-    subst (λ v. natAbs v ≤ 2 * range) (sym (read-back w32 (k .extent-of .result .high) (c .struct-told2 .given .1 .0 .1))) (high-size k)
+    subst (λ v. natAbs v ≤ 2 * range) (sym (read-back w32 (k .extremes-of .result .largest) (c .struct-told2 .given .1 .0 .1))) (high-size k)
 
 returns : tie.Need-returns
 returns c =
@@ -71,10 +71,10 @@ returns-2 c =
     let k = c .before .before .before .before in
     let a = k .before .before .before .before .args in
     summary-accepted (a .width) (a .height) (a .picture .now) _ (k .before .before .before .judge .ensures)
-    (k .extent-of .result .low) (k .extent-of .result .high) _ _ (k .before .enum-told2 .given .1)
-    (k .extent-of .ensures .0) (k .extent-of .ensures .1)
-    (rw (read-back w32 (k .extent-of .result .low) (c .before .before .before .struct-told .given .0 .1)) at (c .before .before .float .ensures))
-    (rw (read-back w32 (k .extent-of .result .high) (c .before .struct-told2 .given .1 .0 .1)) at (c .float2 .ensures))
+    (k .extremes-of .result .smallest) (k .extremes-of .result .largest) _ _ (k .before .enum-told2 .given .1)
+    (ap (λ x. x .smallest) (k .extremes-of .ensures)) (ap (λ x. x .largest) (k .extremes-of .ensures))
+    (rw (read-back w32 (k .extremes-of .result .smallest) (c .before .before .before .struct-told .given .0 .1)) at (c .before .before .float .ensures))
+    (rw (read-back w32 (k .extremes-of .result .largest) (c .before .struct-told2 .given .1 .0 .1)) at (c .float2 .ensures))
     (low-size k) (high-size k)
 
 pub summary-of-spec : {M : Type 1} → statement M
@@ -84,8 +84,8 @@ summary-of-spec =
     judge-requires
     enum-told
     enum-told-2
-    mul-extent-of
-    extent-of-requires
+    mul-extremes-of
+    extremes-of-requires
     float-requires
     float-requires-2
     returns

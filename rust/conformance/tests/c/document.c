@@ -28,6 +28,24 @@ static int is(straightener_answer answer, uint32_t number, size_t row, size_t co
     return answer.number == number && answer.row == row && answer.column == column && answer.count == count;
 }
 
+/* Whether an answer tells no extremes. */
+static int spans_nothing(straightener_answer answer)
+{
+    return answer.smallest == 0 && answer.largest == 0;
+}
+
+/* Whether an answer's extremes are those of so many samples. */
+static int spans(straightener_answer answer, const int32_t *samples, size_t length)
+{
+    int32_t smallest = samples[0], largest = samples[0];
+    size_t k;
+    for (k = 1; k < length; k++) {
+        smallest = samples[k] < smallest ? samples[k] : smallest;
+        largest = samples[k] > largest ? samples[k] : largest;
+    }
+    return answer.smallest == smallest && answer.largest == largest;
+}
+
 static void fill(int32_t *buffer, size_t length)
 {
     size_t k;
@@ -82,7 +100,7 @@ static void lines(void)
         /* A wrapped line never looks at the background. */
         answer = straightener_move_line(e->n, e->kernel, e->d, STRAIGHTENER_WRAPPED, INT32_MIN,
                                         e->line, e->n, result, 6, work, 30);
-        expect(is(answer, STRAIGHTENER_ACCEPTED, 0, 0, e->d % 4096 != 0));
+        expect(is(answer, STRAIGHTENER_ACCEPTED, 0, 0, e->d % 4096 != 0) && spans(answer, e->moved, e->n));
         expect(memcmp(result, e->moved, e->n * sizeof result[0]) == 0);
         expect(all(result, e->n, 6, UNTOUCHED));
         expect(places == 6 * e->n && all(work, 0, places, 0) && all(work, places, 30, UNTOUCHED));
@@ -111,6 +129,7 @@ static void pictures(void)
     straightener_answer turned = straightener_straighten(3, 3, turn, nine, 9, r, 9, work, 36);
     straightener_answer sheared = straightener_straighten(2, 2, shear, four, 4, s, 4, work, 36);
     expect(turned.number == 0 && sheared.number == 0 && all(work, 0, 36, 0));
+    expect(spans(turned, r, 9) && turned.smallest == 1 && spans(sheared, s, 4) && sheared.largest == 10);
     printf("pictures: %d%d%d %d%d%d %d%d%d, count %u; %d %d %d %d, count %u\n", (int)r[0], (int)r[1], (int)r[2],
            (int)r[3], (int)r[4], (int)r[5], (int)r[6], (int)r[7], (int)r[8], (unsigned)turned.count,
            (int)s[0], (int)s[1], (int)s[2], (int)s[3], (unsigned)sheared.count);
@@ -148,7 +167,7 @@ static void on_background(void)
         fill(r, 8);
         fill(work, 48);
         answer = straightener_move_line(4, e->kernel, e->d, e->border, e->background, line, 4, r, 8, work, 48);
-        expect(is(answer, STRAIGHTENER_ACCEPTED, 0, 0, e->count));
+        expect(is(answer, STRAIGHTENER_ACCEPTED, 0, 0, e->count) && spans(answer, e->moved, 4));
         expect(memcmp(r, e->moved, sizeof e->moved) == 0 && all(r, 4, 8, UNTOUCHED));
         expect(all(work, 0, 24, 0) && all(work, 24, 48, UNTOUCHED));
     }
@@ -173,7 +192,8 @@ static void refusals(void)
     fill(r, 6);
     fill(work, 36);
     n[6] = straightener_straighten(3, 2, setting, picture, 6, r, 6, work, 36).number;
-    expect(is(sample, STRAIGHTENER_REFUSED_SAMPLE, 1, 1, 0));
+    expect(is(sample, STRAIGHTENER_REFUSED_SAMPLE, 1, 1, 0) && spans_nothing(sample));
+    expect(spans_nothing(straightener_move_line(6, 3, 0, 0, 0, picture, 6, r, 6, work, 36)));
     setting = straightener_with_border(setting, STRAIGHTENER_ON_BACKGROUND, -32768);
     n[12] = straightener_straighten(3, 2, setting, picture, 6, r, 6, work, 36).number;
     expect(straightener_move_line(6, 0, 0, 1, 32768, picture, 6, r, 6, work, 36).number == STRAIGHTENER_REFUSED_BACKGROUND);
@@ -257,6 +277,8 @@ static void readings(void)
     expect(outside.number == STRAIGHTENER_REFUSED_POINT && outside.kind == STRAIGHTENER_LEVEL && outside.greys == 0);
     expect(is(straightener_greys_out(3, 1, picture, 3, greys, 4), 0, 0, 0, 0));
     expect(is(straightener_floats_out(3, 1, picture, 3, floats, 4), 0, 0, 0, 0));
+    expect(spans_nothing(straightener_greys_out(3, 1, picture, 3, greys, 4)));
+    expect(spans_nothing(straightener_floats_out(3, 1, picture, 3, floats, 4)));
     expect(greys[0] == 0 && greys[1] == 17 && greys[2] == 255 && greys[3] == 9);
     expect(floats[0] == -0.5f && floats[1] == 17 && floats[2] == 256 && floats[3] == 9);
     printf("readings: Under %g, Level %g, Over %g; darkest %g, lightest %g\n", (double)under.greys,

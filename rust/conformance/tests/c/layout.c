@@ -22,6 +22,8 @@ int main(void)
     FIELD(straightener_answer, row);
     FIELD(straightener_answer, column);
     FIELD(straightener_answer, count);
+    FIELD(straightener_answer, smallest);
+    FIELD(straightener_answer, largest);
     SIZE("\nChange", straightener_change);
     FIELD(straightener_change, number);
     FIELD(straightener_change, setting);

@@ -67,8 +67,8 @@ fn straightened(request: &Request) -> Result<(u32, Vec<i32>), Refused> {
     let (_, setting) = with_step(setting, request.step);
     let mut result = vec![0; width * height];
     let mut work = vec![0; work_places(width, height)];
-    let count = straighten(width, height, setting, &request.picture, &mut result, &mut work)?;
-    Ok((count, result))
+    let told = straighten(width, height, setting, &request.picture, &mut result, &mut work)?;
+    Ok((told.count, result))
 }
 
 /// The answer to one line, given without its line feed; the answer ends in one.

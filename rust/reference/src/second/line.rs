@@ -1,7 +1,7 @@
 //! One line moved, and the spline coefficients.
 
 use super::border::{interpolated, judge_border, moved_in, Border};
-use super::{judge_samples, judge_size, refuse_if, Refused};
+use super::{judge_samples, judge_size, refuse_if, Refused, Told};
 
 /// Moves and shears are counted in 4,096ths.
 pub const D: i64 = 4_096;
@@ -109,7 +109,8 @@ pub fn line_work_places(n: usize) -> usize {
 }
 
 /// Moves the first n samples of a line into the first n places of `result`, and sets the first 6n
-/// places of `work` to 0; answers 1 if the line was interpolated and 0 if it was not.
+/// places of `work` to 0; counts 1 if the line was interpolated and 0 if it was not, and tells the smallest
+/// and the largest output sample.
 pub fn move_line(
     n: usize,
     kernel: u32,
@@ -118,16 +119,18 @@ pub fn move_line(
     line: &[i32],
     result: &mut [i32],
     work: &mut [i32],
-) -> Result<u32, Refused> {
+) -> Result<Told, Refused> {
     judge_size(n)?;
     refuse_if(line.len() < n || result.len() < n || work.len() < line_work_places(n), 2)?;
     refuse_if(!(-LARGEST_MOVE..=LARGEST_MOVE).contains(&d), 4)?;
     refuse_if(kernel > SPLINE, 5)?;
     judge_border(border)?;
     judge_samples(n, 1, line, LARGEST_LINE_SAMPLE)?;
-    result[..n].copy_from_slice(&moved_in(border, kernel, i64::from(d), &line[..n]));
+    let output = moved_in(border, kernel, i64::from(d), &line[..n]);
+    result[..n].copy_from_slice(&output);
     work[..line_work_places(n)].fill(0);
-    Ok(u32::from(interpolated(border, n, i64::from(d))))
+    let count = u32::from(interpolated(border, n, i64::from(d)));
+    Ok(Told::over(count, [&output[..]].into_iter()))
 }
 
 #[cfg(test)]

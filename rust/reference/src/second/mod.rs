@@ -39,6 +39,29 @@ impl Refused {
     }
 }
 
+/// What an accepted call that moves lines answers.
+#[derive(Clone, Copy, Debug, PartialEq, Eq)]
+pub struct Told {
+    /// Lines interpolated.
+    pub count: u32,
+    /// The smallest output sample.
+    pub smallest: i32,
+    /// The largest output sample.
+    pub largest: i32,
+}
+
+impl Told {
+    /// A count, with the smallest and the largest sample over the lines of an output; there is at least one.
+    fn over<'a>(count: u32, lines: impl Iterator<Item = &'a [i32]>) -> Told {
+        let mut told = Told { count, smallest: i32::MAX, largest: i32::MIN };
+        for &sample in lines.flatten() {
+            told.smallest = told.smallest.min(sample);
+            told.largest = told.largest.max(sample);
+        }
+        told
+    }
+}
+
 /// Passes where the condition of a refusal number does not hold.
 fn refuse_if(condition: bool, number: u32) -> Result<(), Refused> {
     if condition {

@@ -1,7 +1,7 @@
 //! The setting, and the three passes over a picture.
 
 use super::border::{interpolated, judge_border, moved_in, Border};
-use super::{judge_samples, judge_size, refuse_if, Refused};
+use super::{judge_samples, judge_size, refuse_if, Refused, Told};
 
 /// The largest shear, in 4,096ths.
 const LARGEST_SHEAR: i32 = 4_096;
@@ -96,7 +96,8 @@ pub fn work_places(width: usize, height: usize) -> usize {
 }
 
 /// Straightens `picture` into the first width times height places of `result`, sets the first
-/// 12 times max(width, height) places of `work` to 0, and answers the number of lines interpolated.
+/// 12 times max(width, height) places of `work` to 0, and tells the number of lines interpolated and the
+/// smallest and the largest sample over the rows of pass 3.
 pub fn straighten(
     width: usize,
     height: usize,
@@ -104,7 +105,7 @@ pub fn straighten(
     picture: &[i32],
     result: &mut [i32],
     work: &mut [i32],
-) -> Result<u32, Refused> {
+) -> Result<Told, Refused> {
     judge_size(width)?;
     judge_size(height)?;
     let (places, work_places) = (width * height, work_places(width, height));
@@ -119,5 +120,7 @@ pub fn straighten(
     judge_samples(width, height, picture, LARGEST_SAMPLE)?;
     result[..places].copy_from_slice(&picture[..places]);
     work[..work_places].fill(0);
-    Ok(passes(width, height, setting, &mut result[..places]))
+    let count = passes(width, height, setting, &mut result[..places]);
+    let rows_of_pass_3 = result[..places].chunks(width);
+    Ok(Told::over(count, rows_of_pass_3))
 }

@@ -1,9 +1,9 @@
--- `readings::greater` is the greater of two numbers. Assumes nothing.
+-- `lists::greater` is the greater of two numbers. Assumes nothing.
 use mathlib.Core.Path.{refl}
 use mir.Facts.{toZ-ofZ}
 use Rattle.arith.specs.Whole.{maxℤ}
-use Rattle.readings.proofs.greater.Statement.{statement}
-use Rattle.readings.proofs.greater.Tie as tie
+use Rattle.lists.proofs.greater.Statement.{statement}
+use Rattle.lists.proofs.greater.Tie as tie
 
 returns : tie.Need-returns
 unfolding maxℤ

@@ -1,9 +1,9 @@
--- `readings::lesser` is the lesser of two numbers. Assumes nothing.
+-- `lists::lesser` is the lesser of two numbers. Assumes nothing.
 use mathlib.Core.Path.{refl}
 use mir.Facts.{toZ-ofZ}
 use Rattle.arith.specs.Whole.{minℤ}
-use Rattle.readings.proofs.lesser.Statement.{statement}
-use Rattle.readings.proofs.lesser.Tie as tie
+use Rattle.lists.proofs.lesser.Statement.{statement}
+use Rattle.lists.proofs.lesser.Tie as tie
 
 returns : tie.Need-returns
 unfolding minℤ

@@ -1,0 +1,168 @@
+-- The smallest is not above any of the numbers and is one of them; the largest is not below any and is one of them. Both by one law, over
+-- the pick of two. Those of the rows of a picture are those of all its samples. Assumes nothing.
+use Prim.Native.Nat.{ℕ, zero, suc, _+_, _*_, _/_, _%_, _≤_, _<_}
+use mathlib.Core.Path.{_≡_, refl, sym, ap₂, _∙_, subst}
+use mathlib.Core.Logic.{_⊎_, inl, inr, ⊎-elim}
+use native.Mathlib.Nat.{eq-or-lt-of-le, not-suc-le-zero, le-of-suc-le-suc, div-lt-iff-lt-mul, mod-lt, mul-comm, mul-pos}
+use native.Mathlib.Numerals.{add-one}
+use native.Mathlib.Omega.{arith}
+use mathlib.Core.List.{List, [], _∷_, _++_}
+use lib.Arith.{digits-div, digits-mod}
+use lib.IntN.{ℤ, pos, negsuc, natAbs}
+use lib.ListN.{length, List·getD-append}
+use lib.Signed.{_≤ℤ_}
+use Rattle.arith.specs.Whole.{minℤ, maxℤ}
+use Rattle.arith.proofs.Bridge.{bridge, all2}
+use Rattle.arith.proofs.Laws.{≤ℤ-trans, ≤ℤ-antisym, ≤ℤ-total}
+use Rattle.lists.specs.Line.{Line, line}
+use Rattle.lists.specs.Ends.{picked, smallest, largest, extremesOf, smallestInRows, largestInRows}
+use Rattle.lists.proofs.Rows.{row-in}
+
+-- ---- computed: of the first three of six samples, all above 0; and over two rows of three, where the smallest is also the largest in size
+abbrev six : List ℤ
+six = pos 7 ∷ pos 9 ∷ pos 5 ∷ negsuc 19 ∷ pos 6 ∷ pos 8 ∷ []
+
+three-of-six : extremesOf 3 six ≡ record { smallest = pos 5; largest = pos 9 }
+unfolding picked minℤ maxℤ
+three-of-six = refl
+
+over-two-rows : smallestInRows 3 2 (λ y x. line six (y * 3 + x)) ∷ largestInRows 3 2 (λ y x. line six (y * 3 + x)) ∷ [] ≡ negsuc 19 ∷ pos 9 ∷ []
+unfolding picked minℤ maxℤ
+over-two-rows = refl
+
+-- ---- the loop
+pub picked-none : (of : ℤ → ℤ → ℤ) (f : Line) → f 0 ≡ picked of f 0
+unfolding picked
+picked-none of f = refl
+
+pub picked-more : (of : ℤ → ℤ → ℤ) (f : Line) (i : ℕ) → of (picked of f i) (f i) ≡ picked of f (i + 1)
+unfolding picked
+picked-more of f i = rw add-one refl
+
+-- samples that agree have the same extremes
+pub picked-same : (of : ℤ → ℤ → ℤ) (f g : Line) (n : ℕ) → 1 ≤ n → ((k : ℕ) → k < n → f k ≡ g k) → picked of f n ≡ picked of g n
+unfolding picked
+picked-same of f g n some same = from n same
+  where
+    from : (m : ℕ) → ((k : ℕ) → k < m → f k ≡ g k) → picked of f m ≡ picked of g m
+    from zero h = same 0 some
+    from (suc m) h = ap₂ of (from m (λ k l. h k (omega arith))) (h m (omega arith))
+
+-- those of the first n samples of a list are those of any list that begins with them
+pub extremes-first : (n : ℕ) (s t : List ℤ) → 1 ≤ n → n ≤ length s → extremesOf n (s ++ t) ≡ extremesOf n s
+extremes-first n s t some room = rw (by minℤ, by maxℤ) refl
+  where
+    by : (of : ℤ → ℤ → ℤ) → picked of (line (s ++ t)) n ≡ picked of (line s) n
+    by of = picked-same of (line (s ++ t)) (line s) n some (λ k l. List·getD-append s t (pos 0) k (omega arith))
+
+-- ---- v is one of f 0 .. f (n - 1), and R holds of v and each of them
+pub record Extreme (R : ℤ → ℤ → Type 0) (f : Line) (n : ℕ) (v : ℤ) : Type 0 where
+  pub each : (k : ℕ) → k < n → R v (f k)
+  pub place : ℕ
+  pub inside : place < n
+  pub there : v ≡ f place
+
+module _ (of : ℤ → ℤ → ℤ) (R : ℤ → ℤ → Type 0) (R-trans : (x y z : ℤ) → R x y → R y z → R x z)
+    (left : (x y : ℤ) → R (of x y) x) (right : (x y : ℤ) → R (of x y) y) (either : (x y : ℤ) → (of x y ≡ x) ⊎ (of x y ≡ y)) where
+  picked-is : (f : Line) (n : ℕ) → Extreme R f (suc n) (picked of f (suc n))
+  unfolding picked
+  picked-is f zero = record {
+    each = λ k l. ⊎-elim (λ (e : k ≡ 0). rw e (left (f 0) (f 0))) (λ l. absurd (not-suc-le-zero l)) (eq-or-lt-of-le (le-of-suc-le-suc l));
+    place = 0;
+    inside = omega arith;
+    there = ⊎-elim (λ e. e) (λ e. e) (either (f 0) (f 0));
+  }
+  picked-is f (suc n) =
+      let p = picked-is f n in
+      ⊎-elim
+      (λ e. record { each = below p; place = p .place; inside = omega (arith, p .inside); there = e ∙ p .there })
+      (λ e. record { each = below p; place = suc n; inside = omega arith; there = e })
+      (either (picked of f (suc n)) (f (suc n)))
+    where
+      below : Extreme R f (suc n) (picked of f (suc n)) → (k : ℕ) → k < suc (suc n) → R (of (picked of f (suc n)) (f (suc n))) (f k)
+      below p k l =
+          ⊎-elim
+          (λ (e : k ≡ suc n). rw e (right (picked of f (suc n)) (f (suc n))))
+          (λ m. R-trans _ _ (f k) (left (picked of f (suc n)) (f (suc n))) (p .each k m))
+          (eq-or-lt-of-le (le-of-suc-le-suc l))
+
+-- ---- the pick of two
+min-left : (x y : ℤ) → minℤ x y ≤ℤ x
+min-left = all2 _ (simp bridge (omega arith))
+
+min-right : (x y : ℤ) → minℤ x y ≤ℤ y
+min-right = all2 _ (simp bridge (omega arith))
+
+min-low : (x y : ℤ) → x ≤ℤ y → minℤ x y ≡ x
+min-low = all2 _ (simp bridge (omega arith))
+
+min-high : (x y : ℤ) → y ≤ℤ x → minℤ x y ≡ y
+min-high = all2 _ (simp bridge (omega arith))
+
+max-left : (x y : ℤ) → x ≤ℤ maxℤ x y
+max-left = all2 _ (simp bridge (omega arith))
+
+max-right : (x y : ℤ) → y ≤ℤ maxℤ x y
+max-right = all2 _ (simp bridge (omega arith))
+
+max-low : (x y : ℤ) → x ≤ℤ y → maxℤ x y ≡ y
+max-low = all2 _ (simp bridge (omega arith))
+
+max-high : (x y : ℤ) → y ≤ℤ x → maxℤ x y ≡ x
+max-high = all2 _ (simp bridge (omega arith))
+
+-- ---- the smallest and the largest
+pub smallest-is : (f : Line) (n : ℕ) → 1 ≤ n → Extreme (λ x y. x ≤ℤ y) f n (smallest f n)
+smallest-is f zero h = absurd (not-suc-le-zero h)
+smallest-is f (suc n) h = picked-is minℤ (λ x y. x ≤ℤ y) (λ x y z h k. ≤ℤ-trans h k) min-left min-right either f n
+  where
+    either : (x y : ℤ) → (minℤ x y ≡ x) ⊎ (minℤ x y ≡ y)
+    either x y = ⊎-elim (λ h. inl (min-low x y h)) (λ h. inr (min-high x y h)) (≤ℤ-total x y)
+
+pub largest-is : (f : Line) (n : ℕ) → 1 ≤ n → Extreme (λ x y. y ≤ℤ x) f n (largest f n)
+largest-is f zero h = absurd (not-suc-le-zero h)
+largest-is f (suc n) h = picked-is maxℤ (λ x y. y ≤ℤ x) (λ x y z h k. ≤ℤ-trans k h) max-left max-right either f n
+  where
+    either : (x y : ℤ) → (maxℤ x y ≡ x) ⊎ (maxℤ x y ≡ y)
+    either x y = ⊎-elim (λ h. inr (max-low x y h)) (λ h. inl (max-high x y h)) (≤ℤ-total x y)
+
+-- one of the samples is in their range
+pub extreme-within : (R : ℤ → ℤ → Type 0) (limit n : ℕ) (s : List ℤ) (v : ℤ)
+    → Extreme R (line s) n v
+    → ((k : ℕ) → k < n → natAbs (line s k) ≤ limit)
+    → natAbs v ≤ limit
+extreme-within R limit n s v e h = subst (λ (x : ℤ). natAbs x ≤ limit) (sym (e .there)) (h (e .place) (e .inside))
+
+-- ---- rows
+module _ (of : ℤ → ℤ → ℤ) (R : ℤ → ℤ → Type 0) (R-trans : (x y z : ℤ) → R x y → R y z → R x z) (R-antisym : (x y : ℤ) → R x y → R y x → x ≡ y)
+    (picked-extreme : (f : Line) (n : ℕ) → 1 ≤ n → Extreme R f n (picked of f n)) where
+  -- there is one
+  extreme-only : (f : Line) (n : ℕ) (v w : ℤ) → Extreme R f n v → Extreme R f n w → v ≡ w
+  extreme-only f n v w e d =
+      R-antisym v w (subst (R v) (sym (d .there)) (e .each (d .place) (d .inside))) (subst (R w) (sym (e .there)) (d .each (e .place) (e .inside)))
+
+  module _ (W H : ℕ) (rows : ℕ → Line) (hW : 1 ≤ W) (hH : 1 ≤ H) where
+    -- the pick of H rows of W, each by its own pick, is extreme among all W·H, one row after the other
+    extreme-rows : Extreme R (λ i. rows (i / W) (i % W)) (W * H) (picked of (λ y. picked of (rows y) W) H)
+    extreme-rows =
+        let e = picked-extreme (λ y. picked of (rows y) W) H hH in
+        let row : (y : ℕ) → Extreme R (rows y) W (picked of (rows y) W) = λ y. picked-extreme (rows y) W hW in
+        record {
+          each = λ i l. R-trans _ _ (rows (i / W) (i % W)) (e .each (i / W) (div-lt-iff-lt-mul hW .1 (omega (arith, mul-comm W H)))) (row (i / W) .each (i % W) (mod-lt i hW));
+          place = e .place * W + row (e .place) .place;
+          inside = omega (arith, row-in W H (e .place) (e .inside), row (e .place) .inside, mul-comm W H);
+          there = e .there ∙ row (e .place) .there ∙ sym (ap₂ rows (digits-div (e .place) (row (e .place) .inside)) (digits-mod (e .place) (row (e .place) .inside)));
+        }
+
+    -- so where the rows hold the samples of s, it is the pick of s
+    picked-rows : (s : Line) → ((i : ℕ) → i < W * H → rows (i / W) (i % W) ≡ s i) → picked of (λ y. picked of (rows y) W) H ≡ picked of s (W * H)
+    picked-rows s same =
+        extreme-only (λ i. rows (i / W) (i % W)) (W * H) _ _ extreme-rows (picked-extreme (λ i. rows (i / W) (i % W)) (W * H) (mul-pos hW hH))
+        ∙ picked-same of (λ i. rows (i / W) (i % W)) s (W * H) (mul-pos hW hH) same
+
+module _ (W H : ℕ) (rows : ℕ → Line) (s : Line) (hW : 1 ≤ W) (hH : 1 ≤ H) (same : (i : ℕ) → i < W * H → rows (i / W) (i % W) ≡ s i) where
+  pub smallest-rows : smallestInRows W H rows ≡ smallest s (W * H)
+  smallest-rows = picked-rows minℤ (λ x y. x ≤ℤ y) (λ x y z h k. ≤ℤ-trans h k) (λ x y h k. ≤ℤ-antisym h k) smallest-is W H rows hW hH s same
+
+  pub largest-rows : largestInRows W H rows ≡ largest s (W * H)
+  largest-rows = picked-rows maxℤ (λ x y. y ≤ℤ x) (λ x y z h k. ≤ℤ-trans k h) (λ x y h k. ≤ℤ-antisym k h) largest-is W H rows hW hH s same
