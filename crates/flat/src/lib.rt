@@ -6,6 +6,7 @@ ghost use Rattle.flat.specs.Exported.{borderOf, settingOf, laidAs, ofCha
 use format::Written;
 use levelling::Levelled;
 use lines::LineOutcome;
+use lists::Extremes;
 use pictures::Outcome;
 use readings::Reading;
 use refusals::Verdict;
@@ -132,16 +133,19 @@ pub fn of_change(setting: FlatSetting, change: Change) -> FlatChange
 
 // ---- answers laid out flat
 
-pub fn accepted(count: u32, smallest: i32, largest: i32) -> Answer
-    ensures { λ r. ⌜ r ≡ record { number = 0; row = 0; column = 0; count = count; smallest = smallest; largest = largest } ⌝ }
+// What is told as the smallest and the largest sample where no sample was moved.
+const NO_SAMPLE: i32 = 0;
+
+pub fn accepted(count: u32, extremes: Extremes) -> Answer
+    ensures { λ r. ⌜ r ≡ record { number = 0; row = 0; column = 0; count = count; smallest = extremes .smallest; largest = extremes .largest } ⌝ }
 {
     Answer {
         number: 0,
         row: 0,
         column: 0,
         count,
-        smallest,
-        largest,
+        smallest: extremes.smallest,
+        largest: extremes.largest,
     }
 }
 
@@ -153,8 +157,8 @@ pub fn refused(number: u32, row: usize, column: usize) -> Answer
         row,
         column,
         count: 0,
-        smallest: 0,
-        largest: 0,
+        smallest: NO_SAMPLE,
+        largest: NO_SAMPLE,
     }
 }
 
@@ -162,7 +166,13 @@ pub fn of_verdict(verdict: Verdict) -> Answer
     ensures { λ r. ⌜ r ≡ ofVerdict verdict ⌝ }
 {
     match verdict {
-        Verdict::Accepted => accepted(0, 0, 0),
+        Verdict::Accepted => {
+            let none = Extremes {
+                smallest: NO_SAMPLE,
+                largest: NO_SAMPLE,
+            };
+            accepted(0, none)
+        }
         Verdict::Refused(number, row, column) => refused(number, row, column),
     }
 }
@@ -171,9 +181,7 @@ pub fn of_outcome(outcome: Outcome) -> Answer
     ensures { λ r. ⌜ r ≡ ofOutcome outcome ⌝ }
 {
     match outcome {
-        Outcome::Straightened(count, extremes) => {
-            accepted(count, extremes.smallest, extremes.largest)
-        }
+        Outcome::Straightened(count, extremes) => accepted(count, extremes),
         Outcome::Refused(number, row, column) => refused(number, row, column),
     }
 }
@@ -182,9 +190,7 @@ pub fn of_line(outcome: LineOutcome) -> Answer
     ensures { λ r. ⌜ r ≡ ofLine outcome ⌝ }
 {
     match outcome {
-        LineOutcome::Moved(interpolated, extremes) => {
-            accepted(interpolated as u32, extremes.smallest, extremes.largest)
-        }
+        LineOutcome::Moved(interpolated, extremes) => accepted(interpolated as u32, extremes),
         LineOutcome::Refused(number, row, column) => refused(number, row, column),
     }
 }

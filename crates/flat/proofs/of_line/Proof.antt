@@ -2,9 +2,7 @@
 use mathlib.Core.Path.{_≡_, refl}
 use mathlib.Core.Bool.{Bool, true, false, cond}
 use borrow.Author.Needs.{needs}
-use mir.Syntax.{w32}
 use mir.Val.{boolByte}
-use Rattle.arith.proofs.Machine.{read-back}
 use Rattle.flat.proofs.of_line.Statement.{statement}
 use Rattle.flat.proofs.of_line.Tie as tie
 
@@ -30,10 +28,8 @@ refused-requires c κs = search needs
 
 returns : tie.Need-returns
 returns c =
-    let o = c .before .before .before .before .outcome .given in
-    let smallest = read-back w32 (o .0 .1 .0 .smallest) (c .before .before .struct-told .given .0 .1) in
-    let largest = read-back w32 (o .0 .1 .0 .largest) (c .before .struct-told2 .given .1 .0 .1) in
-    rw (c .accepted .ensures, o .1, bool-as-number (o .0 .0), smallest, largest)
+    let o = c .before .before .outcome .given in
+    rw (c .accepted .ensures, o .1, bool-as-number (o .0 .0))
 
 returns-2 : tie.Need-returns-2
 returns-2 c = rw (c .refused .ensures, c .before .before .outcome2 .given .1)
