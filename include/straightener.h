@@ -10,8 +10,8 @@
  *
  *     cc program.c $(pkg-config --cflags --libs straightener)
  *
- * Straightening     straightener_straighten, straightener_work_places,
- *                   straightener_move_line, straightener_line_work_places
+ * Straightening     straightener_straighten, straightener_ask, straightener_commit,
+ *                   straightener_work_places, straightener_move_line, straightener_line_work_places
  * Settings, steps   straightener_with_kernel, straightener_with_centre, straightener_with_shears,
  *                   straightener_with_border, straightener_with_step, straightener_sine,
  *                   straightener_level
@@ -43,9 +43,9 @@
 #include <stdint.h>
 
 /* The version of this header, as text and as its parts. */
-#define STRAIGHTENER_VERSION "0.4.0"
+#define STRAIGHTENER_VERSION "0.5.0"
 #define STRAIGHTENER_VERSION_MAJOR 0
-#define STRAIGHTENER_VERSION_MINOR 4
+#define STRAIGHTENER_VERSION_MINOR 5
 #define STRAIGHTENER_VERSION_PATCH 0
 
 #ifdef __cplusplus
@@ -64,7 +64,8 @@ enum {
     STRAIGHTENER_REFUSED_POINT = 7,
     STRAIGHTENER_REFUSED_SLOPE = 8,
     STRAIGHTENER_REFUSED_LINE = 9,
-    STRAIGHTENER_REFUSED_BACKGROUND = 12
+    STRAIGHTENER_REFUSED_BACKGROUND = 12,
+    STRAIGHTENER_REFUSED_TICKET = 14
 };
 
 /*
@@ -102,6 +103,9 @@ static inline const char *straightener_words(uint32_t number)
     case STRAIGHTENER_REFUSED_BACKGROUND:
         return "the background must be a sample from -32,767 to 32,767, 128 units to one grey; a wrapped border "
                "has none";
+    case STRAIGHTENER_REFUSED_TICKET:
+        return "the width or the height differs from the ticket's: ask again about this picture; the ticket of a "
+               "refused asking is of no size";
     default:
         return "a number that this header has no words for";
     }
@@ -160,6 +164,28 @@ typedef struct {
     int32_t smallest;
     int32_t largest;
 } straightener_answer;
+
+/*
+ * What a straightening will do. A ticket is plain numbers, which may be kept, changed or made up: a commit
+ * compares its size with the one that it is given, judges its setting, and never reads its count.
+ *   width, height  the size that was asked; 0 by 0 where the asking was refused
+ *   setting        the setting as it was asked, also where the asking was refused
+ *   count          the number of lines that will be interpolated; 0 where the asking was refused
+ */
+typedef struct {
+    size_t width;
+    size_t height;
+    straightener_setting setting;
+    uint32_t count;
+} straightener_ticket;
+
+/* What asking answers: number, row and column as in straightener_answer, and a ticket. */
+typedef struct {
+    uint32_t number;
+    size_t row;
+    size_t column;
+    straightener_ticket ticket;
+} straightener_asked;
 
 /* A changed setting under number 0, or the setting as it was under number 4. */
 typedef struct {
@@ -232,8 +258,38 @@ straightener_answer straightener_straighten(size_t width, size_t height, straigh
                                             int32_t *work, size_t work_len);
 
 /*
- * The places of work that straightener_straighten takes: 12 for each sample of the longer side, or 0 for a
- * width or height that it refuses. Nothing is refused.
+ * Asks what straightener_straighten would do with the same size, setting, picture and buffers, and writes
+ * nothing. The ticket has the size, the setting and the count; the smallest and the largest sample are
+ * known when the picture has been straightened.
+ *   width, height, setting, picture  as for straightener_straighten
+ *   result, work                     those that are to be written later: only their lengths are looked at
+ * Refuses under 1, 2, 3, 4, 5, 12, 6, and then hands back a ticket of size 0 by 0 and count 0, with the
+ * setting as it was asked: a commit on that ticket is refused.
+ */
+straightener_asked straightener_ask(size_t width, size_t height, straightener_setting setting,
+                                    const int32_t *picture, size_t picture_len,
+                                    const int32_t *result, size_t result_len,
+                                    const int32_t *work, size_t work_len);
+
+/*
+ * Straightens a picture as straightener_straighten does, with the setting of a ticket.
+ *   ticket                 what straightener_ask handed back, or any other
+ *   width, height          the size of the picture that is handed in, 1 to 1,024
+ *   picture, result, work  as for straightener_straighten
+ * Refuses under 1, 2, 14, 3, 4, 5, 12, 6, where 14 is a width or height other than the ticket's. Everything
+ * is judged again: the size, the picture and the buffers as they are handed in here, whatever they held when
+ * it was asked, and the ticket's setting. The count is worked out anew, whatever the ticket says. So on a
+ * ticket of the size that is handed in this is straightener_straighten with the ticket's setting, and the
+ * distances named there are from the exact passes over the picture that is handed in here.
+ */
+straightener_answer straightener_commit(straightener_ticket ticket, size_t width, size_t height,
+                                        const int32_t *picture, size_t picture_len,
+                                        int32_t *result, size_t result_len,
+                                        int32_t *work, size_t work_len);
+
+/*
+ * The places of work that straightener_straighten takes, and so straightener_ask and straightener_commit:
+ * 12 for each sample of the longer side, or 0 for a width or height that they refuse. Nothing is refused.
  */
 size_t straightener_work_places(size_t width, size_t height);
 

@@ -1,6 +1,6 @@
 -- A call is accepted just where no number applies. Assumes nothing.
 use Prim.Native.Nat.{ℕ, _*_, _≤_, _<_, max}
-use mathlib.Core.Path.{_≡_, refl, ap}
+use mathlib.Core.Path.{_≡_, refl, ap, _∙_}
 use mathlib.Core.Bool.{Bool, true, false, _||_}
 use mathlib.Core.List.{List}
 use native.Mathlib.Nat.{mul-comm}
@@ -22,7 +22,7 @@ use Rattle.refusals.proofs.First.{nothing-bad, BadAt, first-bad}
 use Rattle.settings.specs.declared.Setting.{Setting}
 use Rattle.moves.specs.Border.{badBackground}
 use Rattle.moves.proofs.Border.{background-good, good-background}
-use Rattle.acceptance.specs.Judge.{range, workPlaces, tooShort, badCentre, badShears, judged, Fit}
+use Rattle.acceptance.specs.Judge.{range, workPlaces, tooShort, badCentre, badShears, judgedOn, judged, Fit}
 
 -- ---- what each test that failed tells
 pub long-enough : (W H picture result work : ℕ) → tooShort W H picture result work ≡ false → (W * H ≤ picture) × (W * H ≤ result) × (12 * max W H ≤ work)
@@ -63,15 +63,34 @@ zero-found : (f : Found) → ZeroButSix (ofFound f)
 zero-found Nothing other = (refl, refl)
 zero-found (At row column) other = absurd (other refl)
 
+-- number 0 says that a call is accepted
+abbrev AcceptedByZero : Verdict → Type 0
+AcceptedByZero v = numberOf v ≡ 0 → v ≡ Accepted
+
+by-zero-if : (t : Bool) (number : ℕ) (later : Verdict) → (number ≡ 0 → ⊥) → AcceptedByZero later → AcceptedByZero (refusedIf t number later)
+by-zero-if true number later some z e = absurd (some e)
+by-zero-if false number later some z e = z e
+
+by-zero-found : (f : Found) → AcceptedByZero (ofFound f)
+by-zero-found Nothing e = refl
+by-zero-found (At row column) e = absurd (omega arith)
+
 module _ (W H : ℕ) (s : Setting) (picture : List ℤ) (result work : ℕ) where
-  -- a call that passes every test is accepted
-  pub fit-accepted : Fit W H s picture result work → judged W H s picture result work ≡ Accepted
-  unfolding judged
-  fit-accepted f = passed 1 size (passed 2 buffers (passed 3 centre (passed 4 shears (passed 5 kernel (passed 12 background (ap ofFound samples))))))
+  -- past every other test the samples alone are judged
+  pub only-samples : (other : Bool) → badSize W H ≡ false → tooShort W H (length picture) result work ≡ false → other ≡ false → badCentre W H s ≡ false
+      → badShears s ≡ false → badKernel (s .kernel) ≡ false → badBackground (s .border) ≡ false
+      → judgedOn other W H s picture result work ≡ ofFound (firstBad range W H picture)
+  unfolding judgedOn
+  only-samples other size buffers same centre shears kernel background =
+      passed 1 size (passed 2 buffers (passed 14 same (passed 3 centre (passed 4 shears (passed 5 kernel (passed 12 background refl))))))
     where
-      passed : {t : Bool} (number : ℕ) {later : Verdict} → t ≡ false → later ≡ Accepted → refusedIf t number later ≡ Accepted
+      passed : {t : Bool} (number : ℕ) {later v : Verdict} → t ≡ false → later ≡ v → refusedIf t number later ≡ v
       passed number e l = rw e l
 
+  -- a call that passes every test is accepted
+  pub fit-accepted : Fit W H s picture result work → judged W H s picture result work ≡ Accepted
+  fit-accepted f = only-samples false size buffers refl centre shears kernel background ∙ ap ofFound samples
+    where
       some : {n : ℕ} → 1 ≤ n → n ≡ 0 → ⊥
       some h e = omega arith
 
@@ -98,13 +117,15 @@ module _ (W H : ℕ) (s : Setting) (picture : List ℤ) (result work : ℕ) wher
       samples : firstBad range W H picture ≡ Nothing
       samples = nothing-bad range W H picture .1 (λ i l. f .samples i (omega (arith, mul-comm W H)))
 
+module _ (other : Bool) (W H : ℕ) (s : Setting) (picture : List ℤ) (result work : ℕ) where
   -- and an accepted one passes every test
-  pub accepted-fit : judged W H s picture result work ≡ Accepted → Fit W H s picture result work
-  unfolding judged
+  pub accepted-fit : judgedOn other W H s picture result work ≡ Accepted → Fit W H s picture result work
+  unfolding judgedOn
   accepted-fit e =
       let one = refusedIf-accepted (badSize W H) 1 _ e in
       let two = refusedIf-accepted (tooShort W H (length picture) result work) 2 _ (one .1) in
-      let three = refusedIf-accepted (badCentre W H s) 3 _ (two .1) in
+      let fourteen = refusedIf-accepted other 14 _ (two .1) in
+      let three = refusedIf-accepted (badCentre W H s) 3 _ (fourteen .1) in
       let four = refusedIf-accepted (badShears s) 4 _ (three .1) in
       let five = refusedIf-accepted (badKernel (s .kernel)) 5 _ (four .1) in
       let twelve = refusedIf-accepted (badBackground (s .border)) 12 _ (five .1) in
@@ -125,12 +146,13 @@ module _ (W H : ℕ) (s : Setting) (picture : List ℤ) (result work : ℕ) wher
       }
 
   -- number 6 names the first sample beyond the range, in row order, of a call that passes the tests before it
-  pub refused-sample : (y x : ℕ) → judged W H s picture result work ≡ Refused 6 y x → BadAt range W H picture y x
-  unfolding judged
+  pub refused-sample : (y x : ℕ) → judgedOn other W H s picture result work ≡ Refused 6 y x → BadAt range W H picture y x
+  unfolding judgedOn
   refused-sample y x e =
       let one = past (badSize W H) 1 _ y x (λ q. omega arith) e in
       let two = past (tooShort W H (length picture) result work) 2 _ y x (λ q. omega arith) one in
-      let three = past (badCentre W H s) 3 _ y x (λ q. omega arith) two in
+      let fourteen = past other 14 _ y x (λ q. omega arith) two in
+      let three = past (badCentre W H s) 3 _ y x (λ q. omega arith) fourteen in
       let four = past (badShears s) 4 _ y x (λ q. omega arith) three in
       let five = past (badKernel (s .kernel)) 5 _ y x (λ q. omega arith) four in
       let twelve = past (badBackground (s .border)) 12 _ y x (λ q. omega arith) five in
@@ -148,8 +170,16 @@ module _ (W H : ℕ) (s : Setting) (picture : List ℤ) (result work : ℕ) wher
           cc
 
   -- and no other number names a place
-  pub refused-zero : ZeroButSix (judged W H s picture result work)
-  unfolding judged
+  pub refused-zero : ZeroButSix (judgedOn other W H s picture result work)
+  unfolding judgedOn
   refused-zero =
-      zero-if (badSize W H) 1 _ (zero-if (tooShort W H (length picture) result work) 2 _ (zero-if (badCentre W H s) 3 _ (zero-if (badShears s) 4 _
-      (zero-if (badKernel (s .kernel)) 5 _ (zero-if (badBackground (s .border)) 12 _ (zero-found (firstBad range W H picture)))))))
+      zero-if (badSize W H) 1 _ (zero-if (tooShort W H (length picture) result work) 2 _ (zero-if other 14 _ (zero-if (badCentre W H s) 3 _
+      (zero-if (badShears s) 4 _ (zero-if (badKernel (s .kernel)) 5 _ (zero-if (badBackground (s .border)) 12 _ (zero-found (firstBad range W H picture))))))))
+
+  -- no number is 0, so that 0 says that the call is accepted
+  pub zero-accepted : AcceptedByZero (judgedOn other W H s picture result work)
+  unfolding judgedOn
+  zero-accepted =
+      by-zero-if (badSize W H) 1 _ (λ e. omega arith) (by-zero-if (tooShort W H (length picture) result work) 2 _ (λ e. omega arith)
+      (by-zero-if other 14 _ (λ e. omega arith) (by-zero-if (badCentre W H s) 3 _ (λ e. omega arith) (by-zero-if (badShears s) 4 _ (λ e. omega arith)
+      (by-zero-if (badKernel (s .kernel)) 5 _ (λ e. omega arith) (by-zero-if (badBackground (s .border)) 12 _ (λ e. omega arith) (by-zero-found (firstBad range W H picture))))))))

@@ -1,6 +1,7 @@
 -- Work places, and verdicts at both ends of every range and one past each, in the order of the numbers, worked out by the checker. Assumes nothing.
 use Prim.Native.Nat.{ℕ, _*_, max}
 use mathlib.Core.Path.{_≡_, refl}
+use mathlib.Core.Bool.{true}
 use mathlib.Core.List.{List, [], _∷_, map}
 use lib.IntN.{ℤ, pos, negsuc}
 use lib.ListN.{replicate}
@@ -12,7 +13,7 @@ use Rattle.settings.specs.declared.Border.the-variants.{Wrapped, Background}
 use Rattle.settings.specs.declared.Setting.{Setting}
 use Rattle.settings.specs.Setting.{withBorder}
 use Rattle.moves.specs.Border.{badBackground}
-use Rattle.acceptance.specs.Judge.{workPlaces, tooShort, badCentre, badShears, judged}
+use Rattle.acceptance.specs.Judge.{workPlaces, tooShort, badCentre, badShears, judgedOn, judged}
 
 -- the work places of sizes at both ends, and of those one past each
 asked :
@@ -50,19 +51,19 @@ held picture = judged 3 2 still picture 6 36
 sides :
     sized 1 1 ∷ sized 1024 1 ∷ sized 1 1024 ∷ sized 0 1 ∷ sized 1 0 ∷ sized 1025 1 ∷ sized 1 1025 ∷ []
     ≡ Accepted ∷ Accepted ∷ Accepted ∷ Refused 1 0 0 ∷ Refused 1 0 0 ∷ Refused 1 0 0 ∷ Refused 1 0 0 ∷ []
-unfolding judged badSize badSide tooShort short badCentre badShears badKernel badBackground firstBad firstFrom beyondOf
+unfolding judgedOn badSize badSide tooShort short badCentre badShears badKernel badBackground firstBad firstFrom beyondOf
 sides = refl
 
 buffers :
     lent 6 6 36 ∷ lent 5 6 36 ∷ lent 6 5 36 ∷ lent 6 6 35 ∷ []
     ≡ Accepted ∷ Refused 2 0 0 ∷ Refused 2 0 0 ∷ Refused 2 0 0 ∷ []
-unfolding judged badSize badSide tooShort short badCentre badShears badKernel badBackground firstBad firstFrom beyondOf
+unfolding judgedOn badSize badSide tooShort short badCentre badShears badKernel badBackground firstBad firstFrom beyondOf
 buffers = refl
 
 centres :
     turned (set 0 2 1 (pos 0) (pos 0)) ∷ turned (set 0 3 1 (pos 0) (pos 0)) ∷ turned (set 0 2 2 (pos 0) (pos 0)) ∷ []
     ≡ Accepted ∷ Refused 3 0 0 ∷ Refused 3 0 0 ∷ []
-unfolding judged badSize badSide tooShort short badCentre badShears badKernel badBackground firstBad firstFrom beyondOf
+unfolding judgedOn badSize badSide tooShort short badCentre badShears badKernel badBackground firstBad firstFrom beyondOf
 centres = refl
 
 shears :
@@ -74,12 +75,12 @@ shears :
     ∷ turned (set 0 0 0 (pos 0) (negsuc 4096))
     ∷ []
     ≡ Accepted ∷ Accepted ∷ Refused 4 0 0 ∷ Refused 4 0 0 ∷ Refused 4 0 0 ∷ Refused 4 0 0 ∷ []
-unfolding judged badSize badSide tooShort short badCentre badShears badKernel badBackground firstBad firstFrom beyondOf
+unfolding judgedOn badSize badSide tooShort short badCentre badShears badKernel badBackground firstBad firstFrom beyondOf
 shears = refl
 
 kernels :
     map (λ k. turned (set k 0 0 (pos 0) (pos 0))) (0 ∷ 1 ∷ 2 ∷ 3 ∷ []) ≡ Accepted ∷ Accepted ∷ Accepted ∷ Refused 5 0 0 ∷ []
-unfolding judged badSize badSide tooShort short badCentre badShears badKernel badBackground firstBad firstFrom beyondOf
+unfolding judgedOn badSize badSide tooShort short badCentre badShears badKernel badBackground firstBad firstFrom beyondOf
 kernels = refl
 
 -- the first sample beyond the range is named, by its row and its column; samples past the W·H places are not read
@@ -89,13 +90,13 @@ samples :
     ∷ held (pos 0 ∷ negsuc 32767 ∷ pos 0 ∷ pos 32768 ∷ pos 0 ∷ pos 0 ∷ [])
     ∷ []
     ≡ Accepted ∷ Refused 6 1 2 ∷ Refused 6 0 1 ∷ []
-unfolding judged badSize badSide tooShort short badCentre badShears badKernel badBackground firstBad firstFrom beyondOf
+unfolding judgedOn badSize badSide tooShort short badCentre badShears badKernel badBackground firstBad firstFrom beyondOf
 samples = refl
 
 backgrounds :
     map (λ (e : Border). turned (withBorder still e)) (Background (pos 32767) ∷ Background (negsuc 32766) ∷ Background (pos 32768) ∷ Background (negsuc 32767) ∷ [])
     ≡ Accepted ∷ Accepted ∷ Refused 12 0 0 ∷ Refused 12 0 0 ∷ []
-unfolding judged badSize badSide tooShort short badCentre badShears badKernel badBackground firstBad firstFrom beyondOf
+unfolding judgedOn badSize badSide tooShort short badCentre badShears badKernel badBackground firstBad firstFrom beyondOf
 backgrounds = refl
 
 -- two neighbouring numbers apply, and the one that is judged first is told: 12 stands between 5 and 6
@@ -108,5 +109,16 @@ lowest :
     ∷ judged 1 1 (withBorder still (Background (pos 32768))) (pos 32768 ∷ []) 1 12
     ∷ []
     ≡ Refused 1 0 0 ∷ Refused 2 0 0 ∷ Refused 3 0 0 ∷ Refused 4 0 0 ∷ Refused 5 0 0 ∷ Refused 12 0 0 ∷ []
-unfolding judged badSize badSide tooShort short badCentre badShears badKernel badBackground firstBad firstFrom beyondOf
+unfolding judgedOn badSize badSide tooShort short badCentre badShears badKernel badBackground firstBad firstFrom beyondOf
 lowest = refl
+
+-- a ticket of another size is 14, after 2 and before 3
+on-another-ticket :
+    judgedOn true 3 2 still (replicate 6 (pos 0)) 6 36
+    ∷ judgedOn true 1025 1 still [] 0 0
+    ∷ judgedOn true 3 2 still (replicate 6 (pos 0)) 6 35
+    ∷ judgedOn true 3 2 (set 0 3 0 (pos 0) (pos 0)) (replicate 6 (pos 0)) 6 36
+    ∷ []
+    ≡ Refused 14 0 0 ∷ Refused 1 0 0 ∷ Refused 2 0 0 ∷ Refused 14 0 0 ∷ []
+unfolding judgedOn badSize badSide tooShort short badCentre badShears badKernel badBackground firstBad firstFrom beyondOf
+on-another-ticket = refl

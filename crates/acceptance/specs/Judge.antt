@@ -1,6 +1,6 @@
--- Which calls are straightened: the work places that one takes, and the tests of numbers 1 to 5, 12 and 6, in their order. Assumes nothing.
+-- Which calls are straightened: the work places that one takes, and the tests of numbers 1, 2, 14, 3, 4, 5, 12 and 6, in their order. Assumes nothing.
 use Prim.Native.Nat.{ℕ, _*_, _≤_, _<_, max}
-use mathlib.Core.Bool.{Bool, _||_, cond}
+use mathlib.Core.Bool.{Bool, false, _||_, cond}
 use mathlib.Core.List.{List}
 use lib.Dec.{leb}
 use lib.IntN.{ℤ, natAbs}
@@ -31,17 +31,22 @@ badCentre W H s = leb W (s .cx) || leb H (s .cy)
 unfoldable pub badShears : Setting → Bool
 badShears s = beyondOf 4096 (s .a) || beyondOf 4096 (s .b)
 
--- the number that a call with a result and work of so many places is refused under, 12 judged after 5 and before 6; 6 with the first sample
--- beyond its range, in row order
-unfoldable pub judged : ℕ → ℕ → Setting → List ℤ → ℕ → ℕ → Verdict
-judged W H s picture result work =
+-- the number that a call with a result and work of so many places is refused under, 14 judged after 2 and before 3, and 12 after 5 and before 6;
+-- 6 with the first sample beyond its range, in row order. `other` says that the call is made on a ticket of another size (Q-7)
+unfoldable pub judgedOn : Bool → ℕ → ℕ → Setting → List ℤ → ℕ → ℕ → Verdict
+judgedOn other W H s picture result work =
     refusedIf (badSize W H) 1
     (refusedIf (tooShort W H (length picture) result work) 2
+    (refusedIf other 14
     (refusedIf (badCentre W H s) 3
     (refusedIf (badShears s) 4
     (refusedIf (badKernel (s .kernel)) 5
     (refusedIf (badBackground (s .border)) 12
-    (ofFound (firstBad range W H picture)))))))
+    (ofFound (firstBad range W H picture))))))))
+
+-- the same of a call on no ticket, which 14 does not refuse
+abbrev pub judged : ℕ → ℕ → Setting → List ℤ → ℕ → ℕ → Verdict
+judged = judgedOn false
 
 -- no number applies: what an accepted call is, in plain bounds. `accepted-fit` and `fit-accepted` in proofs/ say that it is the same
 pub record Fit (W H : ℕ) (s : Setting) (picture : List ℤ) (result work : ℕ) : Type 0 where

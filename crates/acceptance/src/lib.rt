@@ -1,7 +1,8 @@
-// Whether a call is straightened: the tests of numbers 1 to 5, 12 and 6, in their order, and the work places that it takes. Nothing is written.
+// Whether a call is straightened: the tests of numbers 1, 2, 14, 3, 4, 5, 12 and 6, in their order, and the work places that it takes. Nothing
+// is written.
 ghost use mathlib.Core.Path.{_≡_};
 ghost use Prim.Native.Nat.{_*_, _≤_, max};
-ghost use Rattle.acceptance.specs.Judge.{workPlaces, tooShort, badCentre, badShears, judged};
+ghost use Rattle.acceptance.specs.Judge.{workPlaces, tooShort, badCentre, badShears, judgedOn, judged};
 use refusals::Verdict;
 use settings::Setting;
 
@@ -56,8 +57,10 @@ fn bad_shears(setting: Setting) -> bool
     refusals::beyond(setting.a, 4096) || refusals::beyond(setting.b, 4096)
 }
 
-// The number that a call is refused under, with 12 judged after 5 and before 6, of a call with a result and work of so many places.
-pub fn judge(
+// The number that a call is refused under, of a call with a result and work of so many places. 14 is judged after 2 and before 3, where
+// `other` says that the call is made on a ticket of another size; 12 after 5 and before 6.
+pub fn judge_on(
+    other: bool,
     width: usize,
     height: usize,
     setting: Setting,
@@ -65,13 +68,16 @@ pub fn judge(
     result: usize,
     work: usize,
 ) -> Verdict
-    ensures { λ r. ⌜ r ≡ judged width height setting (now (picture .entry)) result work ⌝ }
+    ensures { λ r. ⌜ r ≡ judgedOn other width height setting (now (picture .entry)) result work ⌝ }
 {
     if refusals::bad_size(width, height) {
         return Verdict::Refused(1, 0, 0);
     }
     if too_short(width, height, picture.len(), result, work) {
         return Verdict::Refused(2, 0, 0);
+    }
+    if other {
+        return Verdict::Refused(14, 0, 0);
     }
     if bad_centre(width, height, setting) {
         return Verdict::Refused(3, 0, 0);
@@ -87,4 +93,18 @@ pub fn judge(
         return Verdict::Refused(12, 0, 0);
     }
     refusals::scanned(picture, width, height, RANGE)
+}
+
+// The same of a call that is made on no ticket.
+pub fn judge(
+    width: usize,
+    height: usize,
+    setting: Setting,
+    picture: &[i32],
+    result: usize,
+    work: usize,
+) -> Verdict
+    ensures { λ r. ⌜ r ≡ judged width height setting (now (picture .entry)) result work ⌝ }
+{
+    judge_on(false, width, height, setting, picture, result, work)
 }

@@ -2,6 +2,7 @@
 // an enum, or takes as one, is laid out flat. include/straightener.h says what each argument means, in which unit, and what each number says.
 ghost use mathlib.Core.Path.{_≡_};
 ghost use Rattle.pictures.specs.Answer.{Answer as PictureStraightened};
+ghost use Rattle.tickets.specs.Ticket.{Asking, Committed};
 ghost use Rattle.lines.specs.Answer.{LineMoved};
 ghost use Rattle.lines.specs.Answer as line;
 ghost use Rattle.acceptance.specs.Judge.{workPlaces};
@@ -11,10 +12,12 @@ ghost use Rattle.levelling.specs.Level.{LevelAnswer};
 ghost use Rattle.readings.specs.Sample.{greyOf};
 ghost use Rattle.readings.specs.Answers.{Out, FloatsOut, ReadingAt, SummaryOf};
 ghost use Rattle.format.specs.Answered.{LineAnswered};
-ghost use Rattle.flat.specs.Exported.{Exported, borderOf, settingOf, laidAs, ofChange, ofVerdict, ofOutcome, ofLine, ofSine, ofLevelled, ofReading, ofSummary, ofWritten};
+ghost use Rattle.flat.specs.Exported.{Exported, borderOf, settingOf, laidAs, ofChange, ofVerdict, ofOutcome, ofLine, ofSine, ofLevelled, ofReading, ofSummary, ofWritten, ticketOf, ofAsked};
 use flat::Answer;
+use flat::FlatAsked;
 use flat::FlatChange;
 use flat::FlatSetting;
+use flat::FlatTicket;
 use flat::LineAnswer;
 use flat::ReadingAnswer;
 use flat::Step;
@@ -36,6 +39,53 @@ pub extern "C" fn straightener_straighten(
         width,
         height,
         flat::setting_of(setting),
+        picture,
+        result,
+        work,
+    ))
+}
+
+// Asks what straightening a picture will do, and writes nothing.
+#[no_mangle]
+pub extern "C" fn straightener_ask(
+    width: usize,
+    height: usize,
+    setting: FlatSetting,
+    picture: &[i32],
+    result: &[i32],
+    work: &[i32],
+) -> FlatAsked
+    ensures { λ r. ⌜ Exported (ofAsked setting) (Asking width height (settingOf setting) (now (picture .entry)) (now (result .entry)) (now (work .entry))) r ⌝ }
+{
+    flat::of_asked(
+        setting,
+        tickets::ask(
+            width,
+            height,
+            flat::setting_of(setting),
+            picture,
+            result,
+            work,
+        ),
+    )
+}
+
+// Straightens a picture on a ticket.
+#[no_mangle]
+pub extern "C" fn straightener_commit(
+    ticket: FlatTicket,
+    width: usize,
+    height: usize,
+    picture: &[i32],
+    result: &mut [i32],
+    work: &mut [i32],
+) -> Answer
+    ensures { λ r. ⌜ Exported ofOutcome (λ o. Committed (ticketOf ticket) width height (now (picture .entry)) (now (result .entry)) (now (work .entry)) o (now (result .exit)) (now (work .exit))) r ⌝ }
+{
+    flat::of_outcome(tickets::commit(
+        flat::ticket_of(ticket),
+        width,
+        height,
         picture,
         result,
         work,

@@ -12,9 +12,11 @@ use Rattle.lines.specs.declared.LineOutcome.the-variants as line
 use Rattle.steps.specs.declared.StepSine.the-variants as sine
 use Rattle.levelling.specs.declared.Levelled.the-variants as level
 use Rattle.format.specs.declared.Written.the-variants as written
+use Rattle.tickets.specs.declared.Ticket.{Ticket}
 use Rattle.readings.specs.declared.Reading.{Reading}
 use Rattle.readings.specs.declared.Reading.the-variants.{Level, Under, Over}
-use Rattle.flat.specs.Exported.{ofVerdict, ofOutcome, ofLine, ofSine, ofLevelled, kindOf, greysOf, ofReading, ofSummary, ofWritten}
+use Rattle.flat.specs.declared.FlatSetting.{FlatSetting}
+use Rattle.flat.specs.Exported.{ofVerdict, ofAsked, ofOutcome, ofLine, ofSine, ofLevelled, kindOf, greysOf, ofReading, ofSummary, ofWritten}
 
 -- ---- refused under a number, with a row and a column: these three, and every other figure 0
 module _ (n y x : ℕ) where
@@ -23,6 +25,12 @@ module _ (n y x : ℕ) where
 
   pub refused-picture : ofOutcome (picture.Refused n y x) ≡ record { number = n; row = y; column = x; count = 0; smallest = pos 0; largest = pos 0 }
   refused-picture = refl
+
+  -- with the ticket that it hands back, and the flat setting as it was asked
+  pub refused-asked : (s : FlatSetting) (t : Ticket)
+      → ofAsked s (record { verdict = verdict.Refused n y x; ticket = t })
+      ≡ record { number = n; row = y; column = x; ticket = record { width = t .width; height = t .height; setting = s; count = t .count } }
+  refused-asked s t = refl
 
   pub refused-line : ofLine (line.Refused n y x) ≡ record { number = n; row = y; column = x; count = 0; smallest = pos 0; largest = pos 0 }
   refused-line = refl
@@ -49,6 +57,11 @@ refused-answer n = refl
 -- ---- accepted: number, row and column 0
 pub accepted-verdict : ofVerdict verdict.Accepted ≡ record { number = 0; row = 0; column = 0; count = 0; smallest = pos 0; largest = pos 0 }
 accepted-verdict = refl
+
+pub accepted-asked : (s : FlatSetting) (t : Ticket)
+    → ofAsked s (record { verdict = verdict.Accepted; ticket = t })
+    ≡ record { number = 0; row = 0; column = 0; ticket = record { width = t .width; height = t .height; setting = s; count = t .count } }
+accepted-asked s t = refl
 
 -- with the extremes of what was written
 pub accepted-picture : (lines : ℕ) (extremes : Extremes)

@@ -1,7 +1,9 @@
 -- Laws of the answers that C and Rust receive.
 --     Figures    what each case of an answer is laid out as
 --     Settings   a flat setting and its changes
+--     Tickets    a flat ticket, and the two calls that it goes between
 --     Examples   answers of the calls, laid out and computed
 pub mod Figures
 pub mod Settings
+pub mod Tickets
 pub mod Examples

@@ -24,8 +24,12 @@ use Rattle.settings.specs.declared.Setting.{Setting}
 use Rattle.steps.specs.declared.Change.{Change}
 use Rattle.format.specs.declared.Written.{Written}
 use Rattle.format.specs.Answered.{writtenNumber, writtenBytes}
+use Rattle.tickets.specs.declared.Ticket.{Ticket}
+use Rattle.tickets.specs.declared.Asked.{Asked}
 use Rattle.flat.specs.declared.FlatSetting.{FlatSetting}
 use Rattle.flat.specs.declared.FlatChange.{FlatChange}
+use Rattle.flat.specs.declared.FlatTicket.{FlatTicket}
+use Rattle.flat.specs.declared.FlatAsked.{FlatAsked}
 use Rattle.flat.specs.declared.Answer.{Answer}
 use Rattle.flat.specs.declared.Step.{Step}
 use Rattle.flat.specs.declared.ReadingAnswer.{ReadingAnswer}
@@ -46,6 +50,20 @@ laidAs s c = record { kernel = c .kernel; cx = c .cx; cy = c .cy; a = c .a; b = 
 
 abbrev pub ofChange : FlatSetting → Change → FlatChange
 ofChange s c = record { number = c .number; setting = laidAs s (c .setting) }
+
+abbrev pub ticketOf : FlatTicket → Ticket
+ticketOf t = record { width = t .width; height = t .height; setting = settingOf (t .setting); count = t .count }
+
+-- what asking answers: the ticket has the flat setting as it was asked
+abbrev pub ofAsked : FlatSetting → Asked → FlatAsked
+ofAsked s a =
+    let v = a .verdict in
+    record {
+      number = verdict.numberOf v;
+      row = verdict.rowOf v;
+      column = verdict.columnOf v;
+      ticket = record { width = a .ticket .width; height = a .ticket .height; setting = s; count = a .ticket .count };
+    }
 
 -- a verdict alone interpolates no line and moves no sample
 abbrev pub ofVerdict : Verdict → Answer

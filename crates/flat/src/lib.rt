@@ -2,7 +2,7 @@
 // out flat. include/straightener.h says what each field means.
 ghost use mathlib.Core.Path.{_≡_};
 ghost use lib.IntN.{pos};
-ghost use Rattle.flat.specs.Exported.{borderOf, settingOf, laidAs, ofChange, ofVerdict, ofOutcome, ofLine, ofSine, ofLevelled, kindOf, greysOf, ofReading, ofSummary, ofWritten};
+ghost use Rattle.flat.specs.Exported.{borderOf, settingOf, laidAs, ofChange, ofVerdict, ofOutcome, ofLine, ofSine, ofLevelled, kindOf, greysOf, ofReading, ofSummary, ofWritten, ticketOf, ofAsked};
 use format::Written;
 use levelling::Levelled;
 use lines::LineOutcome;
@@ -14,6 +14,8 @@ use settings::Border;
 use settings::Setting;
 use steps::Change;
 use steps::StepSine;
+use tickets::Asked;
+use tickets::Ticket;
 
 // What most calls answer: 0 or the refusal number, the row and the column under 6, the number of lines interpolated, and the smallest and the
 // largest sample of a moved line or a straightened picture.
@@ -44,6 +46,24 @@ pub struct FlatSetting {
 pub struct FlatChange {
     pub number: u32,
     pub setting: FlatSetting,
+}
+
+// A ticket: the size and the setting that were asked, and the number of lines that straightening will interpolate.
+#[repr(C)]
+pub struct FlatTicket {
+    pub width: usize,
+    pub height: usize,
+    pub setting: FlatSetting,
+    pub count: u32,
+}
+
+// What asking answers: 0 or the refusal number, the row and the column under 6, and a ticket, of size 0 by 0 and count 0 where it was refused.
+#[repr(C)]
+pub struct FlatAsked {
+    pub number: u32,
+    pub row: usize,
+    pub column: usize,
+    pub ticket: FlatTicket,
 }
 
 // 0 and a step or a shear, or the refusal number and 0.
@@ -131,6 +151,19 @@ pub fn of_change(setting: FlatSetting, change: Change) -> FlatChange
     }
 }
 
+pub fn ticket_of(ticket: FlatTicket) -> Ticket
+    ensures { λ r. ⌜ r ≡ ticketOf ticket ⌝ }
+{
+    let flat = ticket.setting;
+    let setting = setting_of(flat);
+    Ticket {
+        width: ticket.width,
+        height: ticket.height,
+        setting,
+        count: ticket.count,
+    }
+}
+
 // ---- answers laid out flat
 
 // What is told as the smallest and the largest sample where no sample was moved.
@@ -192,6 +225,27 @@ pub fn of_line(outcome: LineOutcome) -> Answer
     match outcome {
         LineOutcome::Moved(interpolated, extremes) => accepted(interpolated as u32, extremes),
         LineOutcome::Refused(number, row, column) => refused(number, row, column),
+    }
+}
+
+// What asking answers: the ticket has the flat setting as it was asked, bit for bit.
+pub fn of_asked(setting: FlatSetting, asked: Asked) -> FlatAsked
+    ensures { λ r. ⌜ r ≡ ofAsked setting asked ⌝ }
+{
+    let verdict = asked.verdict;
+    let judged = of_verdict(verdict);
+    let given = asked.ticket;
+    let ticket = FlatTicket {
+        width: given.width,
+        height: given.height,
+        setting,
+        count: given.count,
+    };
+    FlatAsked {
+        number: judged.number,
+        row: judged.row,
+        column: judged.column,
+        ticket,
     }
 }
 

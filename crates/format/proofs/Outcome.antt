@@ -23,7 +23,7 @@ use Rattle.refusals.proofs.First.{nothing-bad}
 use Rattle.steps.specs.Table.{sines}
 use Rattle.steps.specs.declared.Change.{Change}
 use Rattle.steps.specs.Step.{entry, beyond, S, changeOf}
-use Rattle.acceptance.specs.Judge.{range, tooShort, badCentre, badShears, judged}
+use Rattle.acceptance.specs.Judge.{range, tooShort, badCentre, badShears, judgedOn, judged}
 use Rattle.format.specs.Answer.{changeIn, settingIn, numberOf, straightenedOf}
 use Rattle.format.specs.Answered.{lowest, workIn}
 use Rattle.format.specs.Line.{kernelIn, stepIn, widthIn, heightIn, sizeIn}
@@ -101,7 +101,7 @@ work-enough l e = let size = size-good (none l e .size) in omega (arith, size .0
 pub verdict-accepted : (l : List ℕ) (picture : List ℤ) (m k : ℕ) → numberOf l ≡ 0 → sizeIn l ≤ length picture → sizeIn l ≤ m → workIn l ≤ k
     → ((k : ℕ) → k < sizeIn l → natAbs (line picture k) ≤ 32767)
     → judged (widthIn l) (heightIn l) (settingIn l) picture m k ≡ Accepted
-unfolding judged settingIn badBackground
+unfolding judgedOn settingIn badBackground
 verdict-accepted l picture m k e hp hm hk within =
     let n = none l e in
     rw (

@@ -31,7 +31,7 @@ pub record Called (l : List ℕ) (w h : ℕ) (s : Setting) (picture result work 
   pub filled : picture ≡ tab (sampleAt l) (w * h)
   pub result-places : length result ≡ w * h
   pub work-places : 12 * max w h ≤ length work
-  pub outcome : o ≡ outcomeOf w h s picture result work result′
+  pub outcome : o ≡ outcomeOf (verdictOf w h s picture result work) w h s result′
   pub written : result′
       ≡ whenAccepted (verdictOf w h s picture result work)
       (straighten (s .border) (answer.kernelIn s) w h (rowMoves s) (columnMoves s) (take (w * h) picture) ++ drop (w * h) result)

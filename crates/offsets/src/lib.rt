@@ -2,6 +2,7 @@
 //     fraction_of   f of a line's move
 //     start_at      the place of its weighed row that a line's first output is read from
 //     count_lines   how many lines are interpolated
+//     count_of      how many of a picture's, in all three passes
 ghost use mathlib.Core.Path.{_≡_};
 ghost use Prim.Native.Nat.{_<_, _≤_, min};
 ghost use lib.IntN.{pos, natAbs};
@@ -9,8 +10,9 @@ ghost use Rattle.arith.specs.Move.{fraction};
 ghost use Rattle.moves.specs.Border.{fractionIn};
 ghost use Rattle.moves.specs.Row.{places, startAt, held};
 ghost use Rattle.passes.specs.Picture.{shear};
-ghost use Rattle.passes.specs.Count.{interpolated};
+ghost use Rattle.passes.specs.Count.{interpolated, count};
 use settings::Border;
+use settings::Setting;
 
 // How far line y moves.
 fn move_of(a: i32, c: usize, y: usize) -> i64
@@ -67,4 +69,16 @@ pub fn count_lines(border: Border, n: usize, a: i32, c: usize, lines: usize) -> 
         y += 1;
     }
     count
+}
+
+// How many lines straightening a picture of such a size interpolates: those of its rows, its columns and its rows again.
+pub fn count_of(width: usize, height: usize, setting: Setting) -> u32
+    requires { ⌜ (width ≤ 1024) × (height ≤ 1024) × (setting .cx < width) × (setting .cy < height) ⌝ }
+    requires { ⌜ (natAbs (setting .a) ≤ 4096) × (natAbs (setting .b) ≤ 4096) ⌝ }
+    ensures { λ r. ⌜ r ≡ count (setting .border) width height (shear (setting .a) (setting .cy)) (shear (setting .b) (setting .cx)) ⌝ }
+{
+    let border = setting.border;
+    let rows = count_lines(border, width, setting.a, setting.cy, height);
+    let columns = count_lines(border, height, setting.b, setting.cx, width);
+    rows + columns + rows
 }

@@ -1,6 +1,7 @@
 -- What makes up the answer of the three-pass call, refused and accepted. Assumes nothing.
 use Prim.Native.Nat.{ℕ, _+_, _*_, _/_, _%_, _≤_, _<_, max}
 use mathlib.Core.Path.{_≡_, refl, sym, ap, _∙_, subst}
+use mathlib.Core.Bool.{Bool}
 use mathlib.Core.List.{List, _++_}
 use native.Mathlib.Omega.{arith}
 use lib.IntN.{ℤ, pos, natAbs}
@@ -26,10 +27,10 @@ use Rattle.passes.proofs.Stages.{rows-pass, columns-pass, rows-pass-length, str
 use Rattle.exact.specs.Limits.{Demand3}
 use Rattle.exact.proofs.Straighten.{straighten-size}
 use Rattle.exact.proofs.Demand.{straighten-demand3}
-use Rattle.acceptance.specs.Judge.{range, Fit}
-use Rattle.acceptance.proofs.Accepted.{accepted-fit, fit-range, refused-sample, refused-zero}
+use Rattle.acceptance.specs.Judge.{range, judgedOn, Fit}
+use Rattle.acceptance.proofs.Accepted.{fit-range, refused-sample, refused-zero}
 use Rattle.pictures.specs.declared.Outcome.{Outcome}
-use Rattle.pictures.specs.Answer.{numberOf, rowOf, columnOf, kernelIn, rowMoves, columnMoves, thirdRows, verdictOf, Answer}
+use Rattle.pictures.specs.Answer.{numberOf, rowOf, columnOf, outcomeOf, kernelIn, rowMoves, columnMoves, thirdRows, Answered}
 use Rattle.pictures.specs.declared.Outcome.the-variants as variants
 
 -- ---- the places of the picture after its first W·H are not read
@@ -79,10 +80,10 @@ copy-fit {W} {H} {s} {picture} copy room f e big =
     long : length copy ≡ W * H
     long = ap length e ∙ length-take-le (W * H) picture (f .picture-places)
 
--- ---- the answer
-module _ (W H : ℕ) (s : Setting) (picture result work : List ℤ) where
-  pub refused-answer : (number row column : ℕ) → verdictOf W H s picture result work ≡ Refused number row column
-      → Answer W H s picture result work (variants.Refused number row column) result work
+-- ---- the answer, whatever the call was judged by
+module _ (v : Verdict) (W H : ℕ) (s : Setting) (picture result work : List ℤ) where
+  pub refused-answer : (number row column : ℕ) → v ≡ Refused number row column
+      → Answered v W H s picture result work (variants.Refused number row column) result work
   refused-answer number row column e =
       record {
         outcome = rw e refl;
@@ -99,13 +100,13 @@ module _ (W H : ℕ) (s : Setting) (picture result work : List ℤ) where
         demand3 = λ a. let z : _≡_ {A = ℕ} 0 1 = cc in absurd (omega arith);
       }
 
-  pub accepted-answer : (lines : ℕ) (extremes : Extremes) (result′ work′ : List ℤ) → verdictOf W H s picture result work ≡ Accepted
+  pub accepted-answer : (lines : ℕ) (extremes : Extremes) (result′ work′ : List ℤ) → v ≡ Accepted → Fit W H s picture (length result) (length work)
       → lines ≡ count (s .border) W H (rowMoves s) (columnMoves s)
       → extremes ≡ extremesOf (W * H) result′
       → result′ ≡ straighten (s .border) (kernelIn s) W H (rowMoves s) (columnMoves s) (take (W * H) picture) ++ drop (W * H) result
       → work′ ≡ replicate (12 * max W H) (pos 0) ++ drop (12 * max W H) work
-      → Answer W H s picture result work (variants.Straightened lines extremes) result′ work′
-  accepted-answer lines extremes result′ work′ e counted found done zero =
+      → Answered v W H s picture result work (variants.Straightened lines extremes) result′ work′
+  accepted-answer lines extremes result′ work′ e f counted found done zero =
       record {
         outcome = rw (e, counted, found) refl;
         number = rw e refl;
@@ -121,9 +122,6 @@ module _ (W H : ℕ) (s : Setting) (picture result work : List ℤ) where
         demand3 = λ a. subst (Demand3 β κ W H rows columns picture) (sym first) (straighten-demand3 β κ W H rows columns picture (f .width .0) (f .height .0) (f .background) in-range);
       }
     where
-      f : Fit W H s picture (length result) (length work)
-      f = accepted-fit W H s picture (length result) (length work) e
-
       β : Border
       β = s .border
 
@@ -152,18 +150,27 @@ module _ (W H : ℕ) (s : Setting) (picture result work : List ℤ) where
       same : (i : ℕ) → i < W * H → third (i / W) (i % W) ≡ line result′ i
       same i l = sym (straighten-at β κ W H rows columns picture i l) ∙ ap (λ (t : List ℤ). line t i) (sym first) ∙ getD-take (W * H) result′ i (pos 0) l
 
+-- the answer leaves nothing open: two calls with one verdict, on the same picture and buffers, come to the same and leave the same
+pub answered-once : {v : Verdict} {W H : ℕ} {s : Setting} {picture result work : List ℤ} {r r₂ : Outcome} {result′ work′ result₂ work₂ : List ℤ}
+    → Answered v W H s picture result work r result′ work′ → Answered v W H s picture result work r₂ result₂ work₂
+    → (r ≡ r₂) × (result′ ≡ result₂) × (work′ ≡ work₂)
+answered-once {v} {W} {H} {s} a b =
+    let w = a .written ∙ sym (b .written) in
+    (a .outcome ∙ ap (outcomeOf v W H s) w ∙ sym (b .outcome), w, a .cleared ∙ sym (b .cleared))
+
 -- ---- the row and the column of an answer: those of the first sample beyond the range, in row order, under 6, and 0 otherwise
 six : (v : Verdict) → verdict.numberOf v ≡ 6 → v ≡ Refused 6 (verdict.rowOf v) (verdict.columnOf v)
 six Accepted e = absurd (omega arith)
 six (Refused number row column) e = ap (λ n. Refused n row column) e
 
-module _ {W H : ℕ} {s : Setting} {picture result work : List ℤ} {r : Outcome} {result′ work′ : List ℤ} (a : Answer W H s picture result work r result′ work′) where
+module _ (other : Bool) {W H : ℕ} {s : Setting} {picture result work : List ℤ} {r : Outcome} {result′ work′ : List ℤ}
+    (a : Answered (judgedOn other W H s picture (length result) (length work)) W H s picture result work r result′ work′) where
   pub sample-named : numberOf r ≡ 6 → BadAt range W H picture (rowOf r) (columnOf r)
   sample-named e =
-      let v = verdictOf W H s picture result work in
-      rw (a .row, a .column) (refused-sample W H s picture (length result) (length work) (verdict.rowOf v) (verdict.columnOf v) (six v (sym (a .number) ∙ e)))
+      let v = judgedOn other W H s picture (length result) (length work) in
+      rw (a .row, a .column) (refused-sample other W H s picture (length result) (length work) (verdict.rowOf v) (verdict.columnOf v) (six v (sym (a .number) ∙ e)))
 
   pub elsewhere-zero : (numberOf r ≡ 6 → ⊥) → (rowOf r ≡ 0) × (columnOf r ≡ 0)
-  elsewhere-zero other =
-      let z = refused-zero W H s picture (length result) (length work) (λ e. other (a .number ∙ e)) in
+  elsewhere-zero not-six =
+      let z = refused-zero other W H s picture (length result) (length work) (λ e. not-six (a .number ∙ e)) in
       (a .row ∙ z .0, a .column ∙ z .1)

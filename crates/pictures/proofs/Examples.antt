@@ -19,9 +19,9 @@ use Rattle.moves.specs.Move.{first, mixed, source, moved}
 use Rattle.moves.specs.Border.{far, gone, fractionIn, bordered, badBackground}
 use Rattle.passes.specs.Picture.{picture, pictured, rows-moved, straighten}
 use Rattle.passes.specs.Count.{interpolated, count}
-use Rattle.acceptance.specs.Judge.{tooShort, badCentre, badShears, judged}
+use Rattle.acceptance.specs.Judge.{tooShort, badCentre, badShears, judgedOn}
 use Rattle.pictures.specs.declared.Outcome.{Outcome}
-use Rattle.pictures.specs.Answer.{numberOf, rowOf, columnOf, countOf, smallestOf, largestOf, outcomeOf, rowMoves, columnMoves, thirdRows}
+use Rattle.pictures.specs.Answer.{numberOf, rowOf, columnOf, countOf, smallestOf, largestOf, rowMoves, columnMoves, thirdRows, verdictOf, outcomeOf}
 
 -- a wrapped setting: kernel, centre and shears
 abbrev set : ℕ → ℕ → ℕ → ℤ → ℤ → Setting
@@ -49,11 +49,11 @@ figures o = numberOf o ∷ rowOf o ∷ columnOf o ∷ countOf o ∷ []
 -- a call that lends 8 places for its result, and leaves the straightened picture in the first 6
 abbrev answered : ℕ → Outcome
 answered v =
-    outcomeOf 3 2 asked (samples v) (replicate 8 (pos 0)) (replicate 36 (pos 0))
+    outcomeOf (verdictOf 3 2 asked (samples v) (replicate 8 (pos 0)) (replicate 36 (pos 0))) 3 2 asked
     (straighten Wrapped Keys 3 2 (rowMoves asked) (columnMoves asked) (samples v) ++ (negsuc 6 ∷ pos 20000 ∷ []))
 
 outcomes : figures (answered 32768) ∷ figures (answered 32767) ∷ [] ≡ (6 ∷ 1 ∷ 2 ∷ 0 ∷ []) ∷ (0 ∷ 0 ∷ 0 ∷ 3 ∷ []) ∷ []
-unfolding judged badSize badSide tooShort short badCentre badShears badKernel badBackground firstBad firstFrom beyondOf floor remainder fraction gone fractionIn interpolated count
+unfolding judgedOn badSize badSide tooShort short badCentre badShears badKernel badBackground firstBad firstFrom beyondOf floor remainder fraction gone fractionIn interpolated count
 outcomes = refl
 
 -- the smallest and the largest sample: refused, 0; accepted, those of the result, one in each of its rows, and those over the rows of pass 3. The
@@ -62,7 +62,7 @@ abbrev extremes : Outcome → List ℤ
 extremes o = smallestOf o ∷ largestOf o ∷ []
 
 result-extremes : extremes (answered 32768) ∷ extremes (answered 5000) ∷ [] ≡ (pos 0 ∷ pos 0 ∷ []) ∷ (pos 1459 ∷ pos 6419 ∷ []) ∷ []
-unfolding picked minℤ maxℤ straighten pictured picture rows-moved bordered moved source mixed first weigh Σ wrap tab round whole judged badSize badSide tooShort short badCentre badShears badKernel badBackground firstBad firstFrom beyondOf floor remainder fraction gone fractionIn interpolated count
+unfolding picked minℤ maxℤ straighten pictured picture rows-moved bordered moved source mixed first weigh Σ wrap tab round whole judgedOn badSize badSide tooShort short badCentre badShears badKernel badBackground firstBad firstFrom beyondOf floor remainder fraction gone fractionIn interpolated count
 result-extremes = refl
 
 rows-extremes : smallestInRows 3 2 (thirdRows 3 2 asked (samples 5000)) ∷ largestInRows 3 2 (thirdRows 3 2 asked (samples 5000)) ∷ [] ≡ pos 1459 ∷ pos 6419 ∷ []

@@ -69,30 +69,31 @@ thirdRows W H s samples = straightened (s .border) (kernelIn s) W H (rowMoves s)
 abbrev pub verdictOf : ℕ → ℕ → Setting → List ℤ → List ℤ → List ℤ → Verdict
 verdictOf W H s picture result work = judged W H s picture (length result) (length work)
 
--- the outcome of a call that leaves `result′`: its extremes are those of the first W·H samples there
-abbrev pub outcomeOf : ℕ → ℕ → Setting → List ℤ → List ℤ → List ℤ → List ℤ → Outcome
-outcomeOf W H s picture result work result′ =
-    outcomeBy (verdictOf W H s picture result work) (count (s .border) W H (rowMoves s) (columnMoves s)) (extremesOf (W * H) result′)
+-- the outcome of a call with the verdict v that leaves `result′`: its extremes are those of the first W·H samples there
+abbrev pub outcomeOf : Verdict → ℕ → ℕ → Setting → List ℤ → Outcome
+outcomeOf v W H s result′ = outcomeBy v (count (s .border) W H (rowMoves s) (columnMoves s)) (extremesOf (W * H) result′)
 
--- The full answer of a call that lends `picture`, `result` and `work` as they are at entry: r is its outcome, and result′ and work′ are the
--- buffers at exit. Refused, it says its number, row and column, every other figure is 0, and both buffers stay as they were. Accepted, it counts
--- the lines interpolated, at most 2(H-1) + (W-1), and says the smallest and the largest of the samples written, which are those over the rows of
--- pass 3; the first W·H places of the result hold the three passes of the picture, within the ±1,048,576 that every reading takes; the first
--- 12·max(W, H) places of work hold 0; and the result keeps demand 3, worked out from the picture and the setting as they were handed in.
-pub record Answer (W H : ℕ) (s : Setting) (picture result work : List ℤ) (r : Outcome) (result′ work′ : List ℤ) : Type 0 where
-  pub outcome : r ≡ outcomeOf W H s picture result work result′
-  pub number : numberOf r ≡ verdict.numberOf (verdictOf W H s picture result work)
-  pub row : rowOf r ≡ verdict.rowOf (verdictOf W H s picture result work)
-  pub column : columnOf r ≡ verdict.columnOf (verdictOf W H s picture result work)
-  pub count : countOf r ≡ whenAccepted (verdictOf W H s picture result work) (count (s .border) W H (rowMoves s) (columnMoves s)) 0
-  pub smallest : smallestOf r ≡ whenAccepted (verdictOf W H s picture result work) (smallestInRows W H (thirdRows W H s picture)) (pos 0)
-  pub largest : largestOf r ≡ whenAccepted (verdictOf W H s picture result work) (largestInRows W H (thirdRows W H s picture)) (pos 0)
+-- The full answer of a call with the verdict v that lends `picture`, `result` and `work` as they are at entry: r is its outcome, and result′ and
+-- work′ are the buffers at exit. Refused, it says its number, row and column, every other figure is 0, and both buffers stay as they were.
+-- Accepted, it counts the lines interpolated, at most 2(H-1) + (W-1), and says the smallest and the largest of the samples written, which are those
+-- over the rows of pass 3; the first W·H places of the result hold the three passes of the picture, within the ±1,048,576 that every reading
+-- takes; the first 12·max(W, H) places of work hold 0; and the result keeps demand 3, worked out from the picture and the setting as they were
+-- handed in.
+pub record Answered (v : Verdict) (W H : ℕ) (s : Setting) (picture result work : List ℤ) (r : Outcome) (result′ work′ : List ℤ) : Type 0 where
+  pub outcome : r ≡ outcomeOf v W H s result′
+  pub number : numberOf r ≡ verdict.numberOf v
+  pub row : rowOf r ≡ verdict.rowOf v
+  pub column : columnOf r ≡ verdict.columnOf v
+  pub count : countOf r ≡ whenAccepted v (count (s .border) W H (rowMoves s) (columnMoves s)) 0
+  pub smallest : smallestOf r ≡ whenAccepted v (smallestInRows W H (thirdRows W H s picture)) (pos 0)
+  pub largest : largestOf r ≡ whenAccepted v (largestInRows W H (thirdRows W H s picture)) (pos 0)
   pub few : countOf r ≤ 2 * (H - 1) + (W - 1)
   pub written : result′
-      ≡ whenAccepted (verdictOf W H s picture result work)
-      (straighten (s .border) (kernelIn s) W H (rowMoves s) (columnMoves s) (take (W * H) picture) ++ drop (W * H) result)
-      result
-  pub readable : verdictOf W H s picture result work ≡ Accepted → AllWithin 1048576 (W * H) result′
-  pub cleared : work′ ≡ whenAccepted (verdictOf W H s picture result work) (replicate (12 * max W H) (pos 0) ++ drop (12 * max W H) work) work
-  pub demand3 : verdictOf W H s picture result work ≡ Accepted
-      → Demand3 (s .border) (kernelIn s) W H (rowMoves s) (columnMoves s) picture (take (W * H) result′)
+      ≡ whenAccepted v (straighten (s .border) (kernelIn s) W H (rowMoves s) (columnMoves s) (take (W * H) picture) ++ drop (W * H) result) result
+  pub readable : v ≡ Accepted → AllWithin 1048576 (W * H) result′
+  pub cleared : work′ ≡ whenAccepted v (replicate (12 * max W H) (pos 0) ++ drop (12 * max W H) work) work
+  pub demand3 : v ≡ Accepted → Demand3 (s .border) (kernelIn s) W H (rowMoves s) (columnMoves s) picture (take (W * H) result′)
+
+-- the single call: the verdict is that of its tests
+abbrev pub Answer : ℕ → ℕ → Setting → List ℤ → List ℤ → List ℤ → Outcome → List ℤ → List ℤ → Type 0
+Answer W H s picture result work = Answered (verdictOf W H s picture result work) W H s picture result work

@@ -9,8 +9,8 @@ ghost use lib.IntN.{pos};
 ghost use lib.ListN.{length, take, drop, replicate};
 ghost use Rattle.passes.specs.Picture.{straighten};
 ghost use Rattle.passes.specs.Count.{count};
-ghost use Rattle.acceptance.specs.Judge.{Fit};
-ghost use Rattle.pictures.specs.Answer.{kernelIn, rowMoves, columnMoves, Answer};
+ghost use Rattle.acceptance.specs.Judge.{judgedOn, Fit};
+ghost use Rattle.pictures.specs.Answer.{kernelIn, rowMoves, columnMoves, Answered, Answer};
 use lists::Extremes;
 use refusals::Verdict;
 use settings::Setting;
@@ -75,11 +75,43 @@ fn straighten_accepted(
     lines
 }
 
+// The call below, made on a ticket or on none: `other` says that there is a ticket and that it is of another size, which is refused under 14, judged
+// after 2 and before 3.
+pub fn straighten_on(
+    other: bool,
+    width: usize,
+    height: usize,
+    setting: Setting,
+    picture: &[i32],
+    result: &mut [i32],
+    work: &mut [i32],
+) -> Outcome
+    ensures { λ r. ⌜ Answered (judgedOn other width height setting (now (picture .entry)) (length (now (result .entry))) (length (now (work .entry)))) width height setting (now (picture .entry)) (now (result .entry)) (now (work .entry)) r (now (result .exit)) (now (work .exit)) ⌝ }
+{
+    let verdict = acceptance::judge_on(
+        other,
+        width,
+        height,
+        setting,
+        picture,
+        result.len(),
+        work.len(),
+    );
+    match verdict {
+        Verdict::Refused(number, row, column) => Outcome::Refused(number, row, column),
+        Verdict::Accepted => {
+            let lines = straighten_accepted(width, height, setting, picture, result, work);
+            let extremes = lists::extremes_of(result, width * height);
+            Outcome::Straightened(lines, extremes)
+        }
+    }
+}
+
 // Straightens a picture of `width` by `height` samples into `result`, with the kernel, the centre, the shears and the border of `setting`. `work` lends
-// 12·max(width, height) places, which hold 0 after it. It tells the lines interpolated, and the smallest and the largest sample of the result. It
-// refuses, and writes nothing: 1 a side of 0 or over 1,024; 2 a picture or a result under
-// width·height places, or work under its own; 3 a centre outside the picture; 4 a shear beyond ±4,096; 5 an unknown kernel; 12 a background beyond
-// ±32,767, judged before 6; 6 a sample beyond ±32,767, with its row and column.
+// 12·max(width, height) places, which hold 0 after it. It tells the lines interpolated, and the smallest and the largest sample of the result.
+// It refuses, and writes nothing: 1 a side of 0 or over 1,024; 2 a picture or a result under width·height places, or work under its own; 3 a centre
+// outside the picture; 4 a shear beyond ±4,096; 5 an unknown kernel; 12 a background beyond ±32,767, judged before 6; 6 a sample beyond ±32,767,
+// with its row and column.
 pub fn straighten(
     width: usize,
     height: usize,
@@ -90,13 +122,5 @@ pub fn straighten(
 ) -> Outcome
     ensures { λ r. ⌜ Answer width height setting (now (picture .entry)) (now (result .entry)) (now (work .entry)) r (now (result .exit)) (now (work .exit)) ⌝ }
 {
-    let verdict = acceptance::judge(width, height, setting, picture, result.len(), work.len());
-    match verdict {
-        Verdict::Refused(number, row, column) => Outcome::Refused(number, row, column),
-        Verdict::Accepted => {
-            let lines = straighten_accepted(width, height, setting, picture, result, work);
-            let extremes = lists::extremes_of(result, width * height);
-            Outcome::Straightened(lines, extremes)
-        }
-    }
+    straighten_on(false, width, height, setting, picture, result, work)
 }

@@ -2,7 +2,7 @@
 
 use super::numbers::Numbers;
 use super::{Answer, Extremes, Implementation};
-use reference::second::{Border, Setting};
+use reference::second::{Border, Setting, Ticket};
 
 /// Backgrounds that are refused under number 12.
 pub const BAD_BACKGROUNDS: [i32; 4] = [32_768, -32_768, i32::MAX, i32::MIN];
@@ -73,9 +73,29 @@ impl PictureCall {
         let (mut result, mut work) = (buffer(self.result_length), buffer(self.work_length));
         let (answer, extremes) =
             implementation.straighten(self.size, self.setting, &self.picture, &mut result, &mut work);
+        self.held(Outcome { answer, extremes, result, work })
+    }
+
+    /// Asks what the call would do; the buffers are to stay as they were.
+    pub fn ask(&self, implementation: &dyn Implementation) -> (Answer, Ticket) {
+        let (result, work) = (buffer(self.result_length), buffer(self.work_length));
+        let asked = implementation.ask(self.size, self.setting, &self.picture, &result, &work);
+        assert!(untouched_from(0, &result) && untouched_from(0, &work), "an asking wrote to a buffer");
+        asked
+    }
+
+    /// Commits the call on a ticket, with the ticket's setting in place of the call's own.
+    pub fn commit(&self, ticket: Ticket, implementation: &dyn Implementation) -> Outcome {
+        let (mut result, mut work) = (buffer(self.result_length), buffer(self.work_length));
+        let (answer, extremes) =
+            implementation.commit(ticket, self.size, &self.picture, &mut result, &mut work);
+        self.held(Outcome { answer, extremes, result, work })
+    }
+
+    /// Holds an outcome to the documents, by the size of the call.
+    fn held(&self, outcome: Outcome) -> Outcome {
         let (width, height) = self.size;
-        let (places, work_places) = (width.wrapping_mul(height), width.max(height).wrapping_mul(12));
-        Outcome { answer, extremes, result, work }.held_to_the_documents(places, work_places)
+        outcome.held_to_the_documents(width.wrapping_mul(height), width.max(height).wrapping_mul(12))
     }
 
     /// A call on a small picture in which anything may be wrong.

@@ -3,6 +3,7 @@
 
 pub mod c;
 pub mod calls;
+pub mod declarations;
 pub mod files;
 pub mod install;
 pub mod level;
@@ -15,7 +16,7 @@ pub mod tables;
 use calls::LineCall;
 #[cfg(feature = "library")]
 pub use library::{raw_setting, Library};
-use reference::second::{Border, Setting};
+use reference::second::{Border, Setting, Ticket};
 pub use second::Second;
 
 /// What the document says of an answer: number, row, column and count.
@@ -66,6 +67,23 @@ pub trait Implementation {
         &self,
         size: (usize, usize),
         setting: Setting,
+        picture: &[i32],
+        result: &mut [i32],
+        work: &mut [i32],
+    ) -> (Answer, Extremes);
+    /// The answer, whose count is 0, and the ticket.
+    fn ask(
+        &self,
+        size: (usize, usize),
+        setting: Setting,
+        picture: &[i32],
+        result: &[i32],
+        work: &[i32],
+    ) -> (Answer, Ticket);
+    fn commit(
+        &self,
+        ticket: Ticket,
+        size: (usize, usize),
         picture: &[i32],
         result: &mut [i32],
         work: &mut [i32],

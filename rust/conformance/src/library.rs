@@ -2,7 +2,7 @@
 
 use crate::calls::LineCall;
 use crate::{Answer, Extremes, Implementation};
-use reference::second::{Border, Setting};
+use reference::second::{Border, Setting, Ticket};
 use straightener::raw;
 
 /// The proved library.
@@ -53,6 +53,33 @@ impl Implementation for Library {
         work: &mut [i32],
     ) -> (Answer, Extremes) {
         moved(raw::straighten(width, height, raw_setting(setting), picture, result, work))
+    }
+
+    fn ask(
+        &self,
+        (width, height): (usize, usize),
+        setting: Setting,
+        picture: &[i32],
+        result: &[i32],
+        work: &[i32],
+    ) -> (Answer, Ticket) {
+        let asked = raw::ask(width, height, raw_setting(setting), picture, result, work);
+        let raw::Ticket { width, height, setting, count } = asked.ticket;
+        let ticket = Ticket { width, height, setting: plain_setting(setting), count };
+        (Answer::of(asked.number, asked.row, asked.column, 0), ticket)
+    }
+
+    fn commit(
+        &self,
+        ticket: Ticket,
+        (width, height): (usize, usize),
+        picture: &[i32],
+        result: &mut [i32],
+        work: &mut [i32],
+    ) -> (Answer, Extremes) {
+        let setting = raw_setting(ticket.setting);
+        let ticket = raw::Ticket { width: ticket.width, height: ticket.height, setting, count: ticket.count };
+        moved(raw::commit(ticket, width, height, picture, result, work))
     }
 
     fn move_line(&self, call: &LineCall, result: &mut [i32], work: &mut [i32]) -> (Answer, Extremes) {

@@ -2,7 +2,7 @@
 
 use crate::calls::LineCall;
 use crate::{Answer, Extremes, Implementation};
-use reference::second::{self, Border, Refused, Setting, Told};
+use reference::second::{self, Border, Refused, Setting, Ticket, Told};
 
 /// The second implementation.
 pub struct Second;
@@ -40,6 +40,29 @@ impl Implementation for Second {
         work: &mut [i32],
     ) -> (Answer, Extremes) {
         moved(second::straighten(width, height, setting, picture, result, work))
+    }
+
+    fn ask(
+        &self,
+        (width, height): (usize, usize),
+        setting: Setting,
+        picture: &[i32],
+        result: &[i32],
+        work: &[i32],
+    ) -> (Answer, Ticket) {
+        let (outcome, ticket) = second::ask(width, height, setting, picture, result, work);
+        (answer(outcome.map(|()| 0)), ticket)
+    }
+
+    fn commit(
+        &self,
+        ticket: Ticket,
+        (width, height): (usize, usize),
+        picture: &[i32],
+        result: &mut [i32],
+        work: &mut [i32],
+    ) -> (Answer, Extremes) {
+        moved(second::commit(ticket, width, height, picture, result, work))
     }
 
     fn move_line(&self, call: &LineCall, result: &mut [i32], work: &mut [i32]) -> (Answer, Extremes) {

@@ -9,8 +9,9 @@ use std::fs;
 const PRINTED: &str = "lines: 14 as the document has them\n\
                        work places: 7680 for 640 by 480, 3840 for a line of 640\n\
                        pictures: 741 852 963, count 0; 0 10 5 5, count 2\n\
+                       tickets: 4 lines asked, 4 committed\n\
                        lower row: wrapped 30 90 10 20, on background -1 -1 10 20\n\
-                       refusals: 1 2 3 4 5 6 7 8 9 12\n\
+                       refusals: 1 2 3 4 5 6 7 8 9 12 14\n\
                        settings: kernel 2, column 13, row 14, shears 11 and 12, border 1 of -15\n\
                        steps: S(1) = 2, S(1000) = 1887, S(1697) = 2897\n\
                        levelling: -20, -1697\n\

@@ -4,15 +4,15 @@
 use conformance::c::{done, WARNINGS};
 use conformance::files::{in_repository, read, Temporary};
 use conformance::install::{flags, make};
-use conformance::tables::table;
+use conformance::tables::{order, table};
 use std::fs;
 use std::process::Command;
-use straightener::{move_line, Border, Kernel, Reading, BLACK, WHITE};
+use straightener::{ask, commit, move_line, Border, Kernel, Reading, Refusal, Setting, BLACK, WHITE};
 
-/// The program in a language that a text shows.
-fn program<'a>(text: &'a str, language: &str) -> &'a str {
-    let shown = text.split(&format!("```{language}\n")).nth(1).expect("a program");
-    shown.split("```").next().expect("its end")
+/// The programs in a language that a text shows.
+fn programs<'a>(text: &'a str, language: &str) -> Vec<&'a str> {
+    let opening = format!("```{language}\n");
+    text.split(opening.as_str()).skip(1).map(|rest| rest.split("```").next().expect("its end")).collect()
 }
 
 /// The line of a text that begins like this, without its indentation.
@@ -21,19 +21,23 @@ fn line<'a>(text: &'a str, begin: &str) -> &'a str {
 }
 
 #[test]
-fn the_c_program_by_its_link_line() {
+fn the_c_programs_by_their_link_lines() {
     let (readme, folder) = (read("README.md"), Temporary::new("readme-c"));
     done(&mut make("install", &folder.path("")));
-    fs::write(folder.path("program.c"), program(&readme, "c")).expect("the program can be written");
-    let link = line(&readme, "cc -o program program.c $(pkg-config");
-    let (compiler, _) = link.split_once(" $").expect("pkg-config");
-    let mut words = compiler.split_whitespace();
-    // The link line with its flags put in, and every warning an error.
-    let mut compiler = Command::new(words.next().expect("a compiler"));
-    done(compiler.args(words).args(WARNINGS).args(flags(&folder.path(""))).current_dir(folder.path("")));
-    let printed = done(&mut Command::new(folder.path("program")));
-    let (_, expected) = line(&readme, "./program").split_once("# ").expect("what it prints");
-    assert_eq!(printed.trim_end(), expected);
+    let (names, shown) = (["program", "ask"], programs(&readme, "c"));
+    assert_eq!(shown.len(), names.len(), "a program of README has no name here");
+    for (name, program) in names.into_iter().zip(shown) {
+        fs::write(folder.path(&format!("{name}.c")), program).expect("the program can be written");
+        let link = line(&readme, &format!("cc -o {name} {name}.c $(pkg-config"));
+        let (compiler, _) = link.split_once(" $").expect("pkg-config");
+        let mut words = compiler.split_whitespace();
+        // The link line with its flags put in, and every warning an error.
+        let mut compiler = Command::new(words.next().expect("a compiler"));
+        done(compiler.args(words).args(WARNINGS).args(flags(&folder.path(""))).current_dir(folder.path("")));
+        let printed = done(&mut Command::new(folder.path(name)));
+        let (_, expected) = line(&readme, &format!("./{name}")).split_once("# ").expect("what it prints");
+        assert_eq!(printed.trim_end(), expected);
+    }
 }
 
 #[test]
@@ -45,7 +49,7 @@ fn the_rust_program_as_a_package() {
     let manifest = format!("{package}\n[dependencies]\n{dependency}\n\n[workspace]\n");
     fs::create_dir(folder.path("src")).expect("a folder can be made");
     fs::write(folder.path("Cargo.toml"), manifest).expect("the manifest can be written");
-    fs::write(folder.path("src/main.rs"), program(&readme, "rust")).expect("the program can be written");
+    fs::write(folder.path("src/main.rs"), programs(&readme, "rust")[0]).expect("the program can be written");
     let mut cargo = Command::new(env!("CARGO"));
     cargo.args(["run", "--quiet", "--offline", "--target-dir", "target"]).current_dir(folder.path(""));
     let (_, expected) = line(&readme, "cargo run  ").split_once("# ").expect("what it prints");
@@ -109,4 +113,38 @@ fn the_overshoot_of_each_kernel() {
         let [darkest, lightest] = extremes.map(|sample| f64::from(sample) / 128.0);
         assert_eq!(row[3], format!("{darkest:.1} to {lightest:.1}"), "{name}");
     }
+}
+
+/// README's numbers of a commit after which something has changed are those that it is refused under.
+#[test]
+fn what_happens_between_asking_and_committing() {
+    let (picture, work) = ([5, 6, 7, 32_768], [0; 48]);
+    let ticket = ask(2, 2, Setting::new(), &[5; 4], &[0; 4], &work[..24]).expect("a ticket");
+    let committed = |ticket, width: usize, height: usize, picture: &[i32]| {
+        commit(ticket, width, height, picture, &mut [0; 4], &mut work.clone())
+            .map_or_else(Refusal::number, |told| told.count)
+    };
+    let empty = straightener::Ticket { width: 0, height: 0, ..ticket };
+    let (good, long) = (&picture[..3], &[5; 4]);
+    let rows = [
+        (
+            "the picture has another size",
+            vec![(ticket, 4, 1, &long[..]), (ticket, 0, 1, long), (ticket, 3, 2, long)],
+        ),
+        (
+            "a buffer is shorter, a sample is beyond the range",
+            vec![(ticket, 2, 2, good), (ticket, 2, 2, &picture)],
+        ),
+        ("the asking was refused", vec![(empty, 2, 2, long), (empty, 0, 0, long), (empty, 3, 2, long)]),
+    ];
+    let shown = table("README.md", "Between the two calls");
+    for (between, calls) in rows {
+        let row = shown.iter().find(|row| row[0] == between).expect("a row of README");
+        let said = row[1].split(':').next().expect("what happens");
+        let numbers = calls
+            .into_iter()
+            .map(|(ticket, width, height, picture)| committed(ticket, width, height, picture));
+        assert_eq!(order(said), numbers.collect::<Vec<_>>(), "{between}");
+    }
+    assert_eq!(shown.iter().filter(|row| row[1].contains("refused")).count(), 3, "rows with a number");
 }

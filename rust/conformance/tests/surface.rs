@@ -2,6 +2,7 @@
 #![cfg(feature = "library")]
 
 use conformance::c::printed;
+use conformance::declarations;
 use conformance::files::read;
 use conformance::tables::{calls, numbers, order};
 use std::mem::{offset_of, size_of};
@@ -23,6 +24,11 @@ fn declared() -> Vec<(String, String)> {
         }
     }
     functions
+}
+
+/// The files of the safe layer for Rust.
+fn safe_files() -> [String; 4] {
+    ["calls", "readings", "setting", "tickets"].map(|file| format!("rust/straightener/src/{file}.rs"))
 }
 
 /// The names that stand between some words and a bracket in a file.
@@ -50,8 +56,7 @@ fn functions() {
 
 #[test]
 fn functions_for_rust() {
-    let safe = ["calls", "readings", "setting"].map(|file| format!("rust/straightener/src/{file}.rs"));
-    let safe: Vec<_> = safe.iter().flat_map(|file| names(file, "pub fn ")).collect();
+    let safe: Vec<_> = safe_files().iter().flat_map(|file| names(file, "pub fn ")).collect();
     let raw = names("rust/straightener/src/raw.rs", "pub fn ");
     for name in calls().into_iter().flat_map(|call| call.rust) {
         assert!(safe.contains(&name) && raw.contains(&name), "{name} is not in both layers for Rust");
@@ -69,6 +74,47 @@ fn orders_in_the_header() {
         let nothing = comment.contains("Nothing is refused.").then(Vec::new);
         assert_eq!(said.or(nothing), Some(call.order.clone()), "what the header says of {name}");
     }
+}
+
+/// The refusals that a text links to, by their numbers in the text's order.
+fn refusals_named(text: &str) -> Vec<u32> {
+    let names = text.split("[`Refusal::").skip(1).filter_map(|rest| rest.split('`').next());
+    let known = numbers();
+    names.map(|name| known.iter().find(|row| row.rust == name).expect("a refusal").number).collect()
+}
+
+/// What a safe call is said to be refused with, in the order of its numbers; 5 is left out, since no `Kernel` has a
+/// bad number, and `answer_line`, whose buffer is its own.
+#[test]
+fn orders_in_the_documentation_for_rust() {
+    for call in calls().iter().filter(|call| !call.order.is_empty() && !call.c.is_empty()) {
+        let expected: Vec<u32> = call.order.iter().copied().filter(|number| *number != 5).collect();
+        for name in call.rust.iter().filter(|name| *name != "answer_line") {
+            let texts = safe_files().map(|file| read(&file));
+            let before =
+                texts.iter().find_map(|text| text.split_once(&format!("pub fn {name}("))).expect("a call").0;
+            let comment = before.rsplit("\n\n").next().expect("its comment");
+            let said = comment.split("Refused ").nth(1).expect("what it is refused with");
+            let paragraph = said.split("///\n").next().expect("a paragraph");
+            assert_eq!(refusals_named(paragraph), expected, "{name}");
+        }
+    }
+}
+
+#[test]
+fn prototypes() {
+    let declared = sorted(declarations::prototypes_of_the_header());
+    let proved = declarations::prototypes("crates/exports/src/lib.rt", "pub extern \"C\" fn ");
+    let for_rust = declarations::prototypes("rust/straightener-sys/src/lib.rs", "pub fn ");
+    assert_eq!((sorted(proved), sorted(for_rust)), (declared.clone(), declared));
+}
+
+#[test]
+fn structs() {
+    let declared = sorted(declarations::structs_of_the_header());
+    let proved = declarations::structs("crates/flat/src/lib.rt");
+    let for_rust = declarations::structs("rust/straightener-sys/src/lib.rs");
+    assert_eq!((sorted(proved), sorted(for_rust)), (declared.clone(), declared));
 }
 
 /// The constants of a text with whole numbers for values, as `STRAIGHTENER_KEYS = 1` or in a `#define`.
@@ -122,13 +168,10 @@ fn bounds_of_a_reading() {
 /// Whatever is said to be in parts of a grey is in 128ths of one.
 #[test]
 fn the_unit_of_a_sample() {
-    let rust = ["calls", "readings", "setting"].map(|file| format!("rust/straightener/src/{file}.rs"));
-    let [calls, readings, setting] = rust.each_ref().map(String::as_str);
+    let others = ["include/straightener.h", "README.md", "rust/straightener-sys/src/lib.rs"];
     let mut said = 0;
-    for file in
-        ["include/straightener.h", "README.md", "rust/straightener-sys/src/lib.rs", calls, readings, setting]
-    {
-        let text = read(file);
+    for file in others.map(str::to_string).into_iter().chain(safe_files()) {
+        let text = read(&file);
         for before in text.split(" grey").filter(|before| before.ends_with(|c: char| c.is_ascii_digit())) {
             let word = before.rsplit([' ', '\n']).next().unwrap_or_default();
             if let Some(parts) = word.strip_prefix("1/") {
@@ -156,6 +199,8 @@ fn structs_are_laid_out_alike() {
     let expected = [
         layout!(Setting: kernel cx cy a b border background),
         layout!(Answer: number row column count smallest largest),
+        layout!(Ticket: width height setting count),
+        layout!(Asked: number row column ticket),
         layout!(Change: number setting),
         layout!(Step: number value),
         layout!(ReadingAnswer: number row column kind greys),

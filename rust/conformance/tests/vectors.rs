@@ -4,7 +4,7 @@ use conformance::calls::{untouched_from, LineCall, Outcome, PictureCall};
 use conformance::files::{border, cases, float_bits, fnv, list, number, numbers, value, vectors};
 use conformance::{for_both_implementations, Answer, Extremes, Implementation};
 use reference::exact::{self, Whole};
-use reference::second::{self, Setting};
+use reference::second::{self, Setting, Ticket};
 
 for_both_implementations!(
     lines,
@@ -15,6 +15,8 @@ for_both_implementations!(
     pictures_on_background,
     picture_refusals,
     pictures_in_both_borders,
+    tickets,
+    asked_and_committed,
     extremes,
     exact_pictures_in_both_borders,
     steps,
@@ -227,6 +229,51 @@ fn pictures_in_both_borders(implementation: &dyn Implementation) {
     for (input, answer) in vectors("border_pictures.txt", 262) {
         let call = named_picture(&input);
         assert_recorded(&call.run(implementation), call.size.0.wrapping_mul(call.size.1), &answer);
+    }
+}
+
+fn tickets(implementation: &dyn Implementation) {
+    for (input, answer) in vectors("tickets.txt", 250) {
+        let size = |at: usize| (number(&input[at]), number(&input[at + 1]));
+        let ((width, height), setting) = (size(0), setting(&input[2..7]).with_border(border(&input[7])));
+        let ticket = Ticket { width, height, setting, count: number(&input[8]) };
+        let call = PictureCall {
+            size: size(10),
+            setting: Setting::default(),
+            picture: numbers(&input[14..]),
+            result_length: number(value(&input, "result")),
+            work_length: number(value(&input, "work")),
+        };
+        let outcome = call.commit(ticket, implementation);
+        let expected =
+            Answer::of(number(&answer[0]), number(&answer[1]), number(&answer[2]), number(&answer[3]));
+        assert_eq!(outcome.answer, expected, "{input:?}");
+        let extremes = Extremes { smallest: number(&answer[4]), largest: number(&answer[5]) };
+        assert_eq!(outcome.extremes, extremes, "{input:?}");
+        if expected.number == 0 {
+            let places = call.size.0 * call.size.1;
+            assert_eq!(outcome.result[..places], numbers::<i32>(&answer[6..]), "{input:?}");
+        }
+    }
+}
+
+fn asked_and_committed(implementation: &dyn Implementation) {
+    for (input, answer) in vectors("asked.txt", 307) {
+        let call = named_picture(&input);
+        let ticket = |words: &[String]| Ticket {
+            width: number(value(words, "ticket_W")),
+            height: number(value(words, "ticket_H")),
+            setting: call.setting,
+            count: number(value(words, "ticket_count")),
+        };
+        if input[0] == "commit" {
+            let places = call.size.0.wrapping_mul(call.size.1);
+            assert_recorded(&call.commit(ticket(&input), implementation), places, &answer);
+            continue;
+        }
+        let figure = |key: &str| number::<usize>(value(&answer, key));
+        let expected = Answer::of(figure("number") as u32, figure("row"), figure("column"), 0);
+        assert_eq!(call.ask(implementation), (expected, ticket(&answer)), "{input:?}");
     }
 }
 

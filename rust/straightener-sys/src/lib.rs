@@ -30,6 +30,8 @@ pub const STRAIGHTENER_REFUSED_SLOPE: u32 = 8;
 pub const STRAIGHTENER_REFUSED_LINE: u32 = 9;
 /// Refusal of a background.
 pub const STRAIGHTENER_REFUSED_BACKGROUND: u32 = 12;
+/// Refusal of a ticket of another size.
+pub const STRAIGHTENER_REFUSED_TICKET: u32 = 14;
 
 /// The kernel of the two nearest samples.
 pub const STRAIGHTENER_LINEAR: u32 = 0;
@@ -94,6 +96,34 @@ pub struct straightener_answer {
     pub smallest: i32,
     /// The largest sample of the moved line or of the straightened picture, else 0.
     pub largest: i32,
+}
+
+/// What a straightening will do.
+#[repr(C)]
+#[derive(Clone, Copy, Debug, Default, PartialEq, Eq, Hash)]
+pub struct straightener_ticket {
+    /// The width that was asked, 0 where the asking was refused.
+    pub width: usize,
+    /// The height that was asked, 0 where the asking was refused.
+    pub height: usize,
+    /// The setting as it was asked.
+    pub setting: straightener_setting,
+    /// Lines that will be interpolated, 0 where the asking was refused.
+    pub count: u32,
+}
+
+/// What asking answers.
+#[repr(C)]
+#[derive(Clone, Copy, Debug, PartialEq, Eq)]
+pub struct straightener_asked {
+    /// 0, or the refusal number.
+    pub number: u32,
+    /// As in [`straightener_answer`].
+    pub row: usize,
+    /// As in [`straightener_answer`].
+    pub column: usize,
+    /// The ticket.
+    pub ticket: straightener_ticket,
 }
 
 /// A changed setting, or the setting as it was under number 4.
@@ -163,6 +193,22 @@ extern "C" {
     /// Straightens a picture.
     pub fn straightener_straighten(
         width: usize, height: usize, setting: straightener_setting,
+        picture: *const i32, picture_len: usize,
+        result: *mut i32, result_len: usize,
+        work: *mut i32, work_len: usize,
+    ) -> straightener_answer;
+
+    /// Asks what straightening a picture will do, and writes nothing.
+    pub fn straightener_ask(
+        width: usize, height: usize, setting: straightener_setting,
+        picture: *const i32, picture_len: usize,
+        result: *const i32, result_len: usize,
+        work: *const i32, work_len: usize,
+    ) -> straightener_asked;
+
+    /// Straightens a picture on a ticket.
+    pub fn straightener_commit(
+        ticket: straightener_ticket, width: usize, height: usize,
         picture: *const i32, picture_len: usize,
         result: *mut i32, result_len: usize,
         work: *mut i32, work_len: usize,

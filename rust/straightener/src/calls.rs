@@ -17,6 +17,14 @@ pub struct Straightened {
     pub largest: i32,
 }
 
+impl Straightened {
+    /// What an accepted answer tells.
+    pub(crate) fn told(answer: raw::Answer) -> Result<Straightened, Refusal> {
+        accepted(answer.number, answer.row, answer.column)?;
+        Ok(Straightened { count: answer.count, smallest: answer.smallest, largest: answer.largest })
+    }
+}
+
 /// What moving a line tells beside the line.
 #[derive(Clone, Copy, Debug, PartialEq, Eq, Hash)]
 #[non_exhaustive]
@@ -84,9 +92,7 @@ pub fn straighten(
     result: &mut [i32],
     work: &mut [i32],
 ) -> Result<Straightened, Refusal> {
-    let answer = raw::straighten(width, height, setting.into(), picture, result, work);
-    accepted(answer.number, answer.row, answer.column)?;
-    Ok(Straightened { count: answer.count, smallest: answer.smallest, largest: answer.largest })
+    Straightened::told(raw::straighten(width, height, setting.into(), picture, result, work))
 }
 
 /// Straightens a picture into a new one; refused as [`straighten`] is.

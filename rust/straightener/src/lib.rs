@@ -30,8 +30,8 @@
 //!
 //! # Parts
 //!
-//! [`straighten`], [`move_line`], every change of a [`Setting`], [`level`], [`sine`], the readings and
-//! [`answer_line`] call the proved library, which is x86-64 Linux code. [`raw`] is its C interface with
+//! [`straighten`], [`ask`], [`commit`], [`move_line`], every change of a [`Setting`], [`level`], [`sine`], the
+//! readings and [`answer_line`] call the proved library, which is x86-64 Linux code. [`raw`] is its C interface with
 //! slices. The package's own thin layer over the calls is tested and not proved.
 
 mod calls;
@@ -39,6 +39,7 @@ pub mod raw;
 mod readings;
 mod refusal;
 mod setting;
+mod tickets;
 
 pub use calls::{
     answer_line, level, line_work_places, move_line, sine, straighten, straightened, work_places, Moved,
@@ -47,3 +48,4 @@ pub use calls::{
 pub use readings::{floats_out, greys_out, reading, summary, Reading, Summary, BLACK, WHITE};
 pub use refusal::Refusal;
 pub use setting::{Border, Kernel, Setting};
+pub use tickets::{ask, commit, Ticket};

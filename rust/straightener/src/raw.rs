@@ -7,9 +7,10 @@
 use straightener_sys as sys;
 
 pub use straightener_sys::{
-    straightener_answer as Answer, straightener_change as Change, straightener_line_answer as LineAnswer,
-    straightener_reading_answer as ReadingAnswer, straightener_setting as Setting, straightener_step as Step,
-    straightener_summary_answer as SummaryAnswer, STRAIGHTENER_LONGEST_ANSWER as LONGEST_ANSWER,
+    straightener_answer as Answer, straightener_asked as Asked, straightener_change as Change,
+    straightener_line_answer as LineAnswer, straightener_reading_answer as ReadingAnswer,
+    straightener_setting as Setting, straightener_step as Step, straightener_summary_answer as SummaryAnswer,
+    straightener_ticket as Ticket, STRAIGHTENER_LONGEST_ANSWER as LONGEST_ANSWER,
 };
 
 // Each call below hands over slices whole: they are valid for their lengths and, being borrowed, do not
@@ -33,6 +34,63 @@ pub fn straighten(
             width,
             height,
             setting,
+            picture,
+            picture_len,
+            result,
+            result_len,
+            work,
+            work_len,
+        )
+    }
+}
+
+/// Asks what straightening a picture will do, and writes nothing. A refused asking comes with a ticket of size
+/// 0 by 0 and count 0, with the setting as it was asked.
+pub fn ask(
+    width: usize,
+    height: usize,
+    setting: Setting,
+    picture: &[i32],
+    result: &[i32],
+    work: &[i32],
+) -> Asked {
+    let (picture, picture_len) = (picture.as_ptr(), picture.len());
+    let (result, result_len) = (result.as_ptr(), result.len());
+    let (work, work_len) = (work.as_ptr(), work.len());
+    // SAFETY: borrowed slices, see above; all of them are only read.
+    unsafe {
+        sys::straightener_ask(
+            width,
+            height,
+            setting,
+            picture,
+            picture_len,
+            result,
+            result_len,
+            work,
+            work_len,
+        )
+    }
+}
+
+/// Straightens a picture on a ticket.
+pub fn commit(
+    ticket: Ticket,
+    width: usize,
+    height: usize,
+    picture: &[i32],
+    result: &mut [i32],
+    work: &mut [i32],
+) -> Answer {
+    let (picture, picture_len) = (picture.as_ptr(), picture.len());
+    let (result, result_len) = (result.as_mut_ptr(), result.len());
+    let (work, work_len) = (work.as_mut_ptr(), work.len());
+    // SAFETY: borrowed slices, see above.
+    unsafe {
+        sys::straightener_commit(
+            ticket,
+            width,
+            height,
             picture,
             picture_len,
             result,

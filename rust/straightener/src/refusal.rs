@@ -121,6 +121,10 @@ refusals! {
         "the background must be a sample from -32,767 to 32,767, 128 units to one grey; a wrapped border \
          has none"
 
+        14 Ticket STRAIGHTENER_REFUSED_TICKET
+        "the width or the height differs from the ticket's: ask again about this picture; the ticket of a \
+         refused asking is of no size"
+
     with_a_place:
         6 Sample STRAIGHTENER_REFUSED_SAMPLE
         "a sample lies beyond its range, which is 32,767 units to either side of 0 for straightening, \

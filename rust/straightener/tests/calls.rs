@@ -2,8 +2,8 @@
 
 use std::collections::HashSet;
 use straightener::{
-    answer_line, floats_out, greys_out, level, line_work_places, move_line, reading, sine, straighten,
-    straightened, summary, work_places, Border, Kernel, Refusal, Setting,
+    answer_line, ask, commit, floats_out, greys_out, level, line_work_places, move_line, raw, reading, sine,
+    straighten, straightened, summary, work_places, Border, Kernel, Refusal, Setting, Ticket,
 };
 
 #[test]
@@ -50,6 +50,36 @@ fn every_change_keeps_the_border() {
         assert_eq!(setting.with_border(Border::Wrapped), plain);
     }
     assert_eq!(Border::default(), Border::Wrapped);
+}
+
+#[test]
+fn an_asking_and_a_commit_on_its_ticket() {
+    let picture = [10, 20, 30, 40, 50, 60];
+    let (mut result, mut work) = (vec![7; 6], vec![7; work_places(3, 2)]);
+    let grey = Setting::new().with_kernel(Kernel::Spline).with_border(Border::Background(-50));
+    let setting = grey.with_centre(1, 1).with_shears(700, -900);
+    let ticket = ask(3, 2, setting, &picture, &result, &work).expect("nothing is wrong");
+    assert_eq!(ticket, Ticket { width: 3, height: 2, setting, count: 4 });
+    assert_eq!((&result, &work), (&vec![7; 6], &vec![7; 36]));
+    assert_eq!(raw::Ticket::from(ticket), raw::ask(3, 2, setting.into(), &picture, &result, &work).ticket);
+    let told = commit(ticket, 3, 2, &picture, &mut result, &mut work).expect("nothing is wrong");
+    assert_eq!(straightened(3, 2, setting, &picture), Ok((result.clone(), told)));
+    assert_eq!((told.count, &work), (4, &vec![0; 36]));
+
+    let asked = |setting, picture: &[i32], work: &[i32]| ask(3, 2, setting, picture, &[0; 6], work);
+    assert_eq!(asked(setting, &picture, &[0; 35]), Err(Refusal::Buffer));
+    assert_eq!(asked(setting.with_centre(3, 0), &picture, &[0; 36]), Err(Refusal::Centre));
+    let spoilt = [10, 20, 30, -32_768, 50, 60];
+    assert_eq!(asked(setting, &spoilt, &[0; 36]), Err(Refusal::Sample { row: 1, column: 0 }));
+
+    let mut committed = |ticket, picture: &[i32]| commit(ticket, 3, 2, picture, &mut result, &mut work);
+    assert_eq!(committed(Ticket { width: 2, ..ticket }, &picture), Err(Refusal::Ticket));
+    assert_eq!(
+        committed(Ticket { setting: setting.with_shears(0, 4_097), ..ticket }, &picture),
+        Err(Refusal::Shear)
+    );
+    assert_eq!(committed(ticket, &spoilt), Err(Refusal::Sample { row: 1, column: 0 }));
+    assert_eq!(committed(Ticket { count: 99, ..ticket }, &picture), Ok(told));
 }
 
 #[test]

@@ -135,6 +135,48 @@ static void pictures(void)
            (int)s[0], (int)s[1], (int)s[2], (int)s[3], (unsigned)sheared.count);
 }
 
+/* Whether a ticket has this size and count, and the setting s, field by field. */
+static int holds(straightener_ticket t, size_t width, size_t height, uint32_t count, straightener_setting s)
+{
+    return t.width == width && t.height == height && t.count == count && t.setting.kernel == s.kernel &&
+           t.setting.cx == s.cx && t.setting.cy == s.cy && t.setting.a == s.a && t.setting.b == s.b &&
+           t.setting.border == s.border && t.setting.background == s.background;
+}
+
+static void tickets(void)
+{
+    const int32_t picture[6] = {10, 20, 30, 40, 50, 60}, anew[6] = {60, 50, 40, 30, 20, 10}, bad[6] = {0, 0, 0, 0, -32768, 0};
+    straightener_setting s = {STRAIGHTENER_SPLINE, 1, 1, 700, -900, 8, -50};
+    int32_t r[8], single[8], work[40];
+    straightener_asked asked, refused;
+    straightener_answer told, committed;
+    uint32_t lines;
+    fill(r, 8);
+    fill(single, 8);
+    fill(work, 40);
+    asked = straightener_ask(3, 2, s, picture, 6, r, 8, work, 40);
+    expect(asked.number == STRAIGHTENER_ACCEPTED && asked.row == 0 && asked.column == 0);
+    expect(holds(asked.ticket, 3, 2, 4, s) && all(r, 0, 8, UNTOUCHED) && all(work, 0, 40, UNTOUCHED));
+    refused = straightener_ask(3, 2, s, bad, 6, r, 8, work, 40);
+    expect(refused.number == STRAIGHTENER_REFUSED_SAMPLE && refused.row == 1 && refused.column == 1);
+    expect(holds(refused.ticket, 0, 0, 0, s));
+    committed = straightener_commit(refused.ticket, 3, 2, picture, 6, r, 8, work, 40);
+    expect(is(committed, STRAIGHTENER_REFUSED_TICKET, 0, 0, 0) && spans_nothing(committed));
+    expect(is(straightener_commit(asked.ticket, 2, 3, picture, 6, r, 8, work, 40), 14, 0, 0, 0));
+    expect(is(straightener_commit(asked.ticket, 3, 2, bad, 6, r, 8, work, 40), 6, 1, 1, 0));
+    expect(is(straightener_commit(asked.ticket, 2, 3, picture, 5, r, 8, work, 40), 2, 0, 0, 0));
+    expect(is(straightener_commit(refused.ticket, 0, 0, NULL, 0, NULL, 0, NULL, 0), 1, 0, 0, 0));
+    expect(all(r, 0, 8, UNTOUCHED) && all(work, 0, 40, UNTOUCHED));
+    lines = asked.ticket.count;
+    asked.ticket.count = 77;
+    told = straightener_straighten(3, 2, s, anew, 6, single, 8, work, 40);
+    fill(work, 40);
+    committed = straightener_commit(asked.ticket, 3, 2, anew, 6, r, 8, work, 40);
+    expect(is(committed, 0, 0, 0, told.count) && spans(committed, r, 6) && memcmp(r, single, sizeof r) == 0);
+    expect(all(work, 0, 36, 0) && all(work, 36, 40, UNTOUCHED));
+    printf("tickets: %u lines asked, %u committed\n", (unsigned)lines, (unsigned)committed.count);
+}
+
 struct background_example {
     uint32_t kernel;
     int32_t d;
@@ -187,6 +229,7 @@ static void refusals(void)
     straightener_setting setting = {STRAIGHTENER_SPLINE, 2, 1, 4096, -4096, STRAIGHTENER_WRAPPED, 0};
     int32_t r[6], work[36];
     uint8_t answer[11];
+    straightener_ticket ticket = {3, 1, setting, 0};
     straightener_answer sample = straightener_straighten(3, 2, setting, picture, 6, r, 6, work, 36);
     unsigned n[32];
     fill(r, 6);
@@ -203,7 +246,9 @@ static void refusals(void)
     setting.a = 4097;
     n[4] = straightener_straighten(3, 2, setting, picture, 6, r, 6, work, 36).number;
     setting.cx = 3;
+    ticket.setting = setting;
     n[3] = straightener_straighten(3, 2, setting, picture, 6, r, 6, work, 36).number;
+    n[14] = straightener_commit(ticket, 3, 2, picture, 6, r, 6, work, 36).number;
     n[2] = straightener_straighten(3, 2, setting, NULL, 0, r, 6, work, 36).number;
     expect(straightener_straighten(3, 2, setting, picture, 6, r, 6, work, 35).number == STRAIGHTENER_REFUSED_BUFFER);
     expect(straightener_move_line(6, 0, 0, 0, 0, picture, 6, r, 6, work, 35).number == STRAIGHTENER_REFUSED_BUFFER);
@@ -213,7 +258,7 @@ static void refusals(void)
     expect(straightener_answer_line((const uint8_t *)"junk", 4, answer, 11).written == 11);
     n[9] = (unsigned)(answer[1] - '0');
     expect(all(r, 0, 6, UNTOUCHED) && all(work, 0, 36, UNTOUCHED));
-    printf("refusals: %u %u %u %u %u %u %u %u %u %u\n", n[1], n[2], n[3], n[4], n[5], n[6], n[7], n[8], n[9], n[12]);
+    printf("refusals: %u %u %u %u %u %u %u %u %u %u %u\n", n[1], n[2], n[3], n[4], n[5], n[6], n[7], n[8], n[9], n[12], n[14]);
 }
 
 /* Whether a setting has these five parts, and the border 8 with background INT32_MIN. */
@@ -315,6 +360,7 @@ int main(void)
     lines();
     work_places();
     pictures();
+    tickets();
     on_background();
     refusals();
     settings();

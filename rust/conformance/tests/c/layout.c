@@ -24,6 +24,16 @@ int main(void)
     FIELD(straightener_answer, count);
     FIELD(straightener_answer, smallest);
     FIELD(straightener_answer, largest);
+    SIZE("\nTicket", straightener_ticket);
+    FIELD(straightener_ticket, width);
+    FIELD(straightener_ticket, height);
+    FIELD(straightener_ticket, setting);
+    FIELD(straightener_ticket, count);
+    SIZE("\nAsked", straightener_asked);
+    FIELD(straightener_asked, number);
+    FIELD(straightener_asked, row);
+    FIELD(straightener_asked, column);
+    FIELD(straightener_asked, ticket);
     SIZE("\nChange", straightener_change);
     FIELD(straightener_change, number);
     FIELD(straightener_change, setting);

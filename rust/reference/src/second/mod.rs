@@ -10,6 +10,7 @@ mod line;
 mod picture;
 mod readings;
 mod steps;
+mod tickets;
 
 pub use border::{interpolated, Border};
 pub use hexlines::{answer_input, answer_line};
@@ -17,6 +18,7 @@ pub use line::{coefficients, fraction, line_work_places, move_line, rounded, wei
 pub use picture::{passes, straighten, work_places, Setting};
 pub use readings::{floats_out, grey, greys_out, reading, summary, Reading, Summary};
 pub use steps::{level, sine, with_step, LARGEST_STEP};
+pub use tickets::{ask, commit, Ticket};
 
 /// The longest line, and the largest width and height, in samples.
 pub const LONGEST: usize = 1_024;
@@ -24,7 +26,7 @@ pub const LONGEST: usize = 1_024;
 /// Why a call was refused: the document's number, and under number 6 the place of the sample.
 #[derive(Clone, Copy, Debug, PartialEq, Eq)]
 pub struct Refused {
-    /// 1 to 9, as document 01 lists them, or 12 of document 02.
+    /// 1 to 9, as document 01 lists them, or 12 or 14 of document 02.
     pub number: u32,
     /// Row of the first sample beyond the range; 0 for every other number.
     pub row: usize,

@@ -95,6 +95,21 @@ pub fn work_places(width: usize, height: usize) -> usize {
     }
 }
 
+/// Numbers 1 and 2: the size, and the places lent.
+pub(super) fn judge_lent(
+    width: usize,
+    height: usize,
+    picture: &[i32],
+    result: &[i32],
+    work: &[i32],
+) -> Result<(), Refused> {
+    judge_size(width)?;
+    judge_size(height)?;
+    let places = width * height;
+    let short = picture.len() < places || result.len() < places || work.len() < work_places(width, height);
+    refuse_if(short, 2)
+}
+
 /// Straightens `picture` into the first width times height places of `result`, sets the first
 /// 12 times max(width, height) places of `work` to 0, and tells the number of lines interpolated and the
 /// smallest and the largest sample over the rows of pass 3.
@@ -106,10 +121,8 @@ pub fn straighten(
     result: &mut [i32],
     work: &mut [i32],
 ) -> Result<Told, Refused> {
-    judge_size(width)?;
-    judge_size(height)?;
+    judge_lent(width, height, picture, result, work)?;
     let (places, work_places) = (width * height, work_places(width, height));
-    refuse_if(picture.len() < places || result.len() < places || work.len() < work_places, 2)?;
     refuse_if(setting.cx >= width || setting.cy >= height, 3)?;
     refuse_if(
         [setting.a, setting.b].iter().any(|shear| !(-LARGEST_SHEAR..=LARGEST_SHEAR).contains(shear)),

@@ -1,23 +1,28 @@
--- `straighten` answers as the tests say. Assumes nothing.
-use mathlib.Core.Path.{sym, _∙_}
+-- `straighten_on` answers as the tests say. Assumes nothing.
+use mathlib.Core.Path.{_≡_, sym, _∙_}
 use native.Mathlib.Nat.{mul-le-mul, mul-pos}
 use native.Mathlib.Omega.{arith}
 use borrow.Author.Needs.{needs}
 use lib.ListN.{length}
-use Rattle.acceptance.specs.Judge.{Fit}
+use Rattle.acceptance.specs.Judge.{judgedOn, Fit}
 use Rattle.acceptance.proofs.Accepted.{accepted-fit}
 use Rattle.pictures.proofs.Call.{refused-answer, accepted-answer}
-use Rattle.pictures.proofs.straighten.Statement.{statement}
-use Rattle.pictures.proofs.straighten.Tie as tie
+use Rattle.pictures.proofs.straighten_on.Statement.{statement}
+use Rattle.pictures.proofs.straighten_on.Tie as tie
+
+-- the verdict is that of the picture and the buffers handed in, on a ticket of another size or not
+judged : (c : tie.After-judge-on)
+    → let a = c .before .args in c .judge-on .result ≡ judgedOn (a .other) (a .width) (a .height) (a .setting) (a .picture .now) (length (a .result .now)) (length (a .work .now))
+judged c = c .judge-on .ensures
 
 -- an accepted call is fit
 fit : (c : tie.After-enum-told) → let a = c .before .before .before .args in Fit (a .width) (a .height) (a .setting) (a .picture .now) (length (a .result .now)) (length (a .work .now))
 fit c =
     let a = c .before .before .before .args in
-    accepted-fit (a .width) (a .height) (a .setting) (a .picture .now) _ _ (sym (c .before .before .judge .ensures) ∙ c .enum-told .given .1)
+    accepted-fit (a .other) (a .width) (a .height) (a .setting) (a .picture .now) _ _ (sym (judged (c .before .before)) ∙ c .enum-told .given .1)
 
-judge-requires : tie.Need-judge-requires
-judge-requires c κs = search needs
+judge-on-requires : tie.Need-judge-on-requires
+judge-on-requires c κs = search needs
 
 enum-known-verdict : tie.Need-enum-known-verdict
 enum-known-verdict c = search needs
@@ -42,8 +47,8 @@ extremes-of-requires c κs =
 returns : tie.Need-returns
 returns c =
     let a = c .before .before .before .before .args in
-    refused-answer (a .width) (a .height) (a .setting) (a .picture .now) (a .result .now) (a .work .now) _ _ _
-    (sym (c .before .before .before .judge .ensures) ∙ c .before .verdict .given .1)
+    refused-answer _ (a .width) (a .height) (a .setting) (a .picture .now) (a .result .now) (a .work .now) _ _ _
+    (sym (judged (c .before .before .before)) ∙ c .before .verdict .given .1)
 
 same-length : tie.Need-same-length
 same-length c = search needs
@@ -57,14 +62,14 @@ returns-2 c =
     let t = v .before .before .before in
     let a = t .before .before .before .args in
     let e = v .straighten-accepted .ensures in
-    accepted-answer (a .width) (a .height) (a .setting) (a .picture .now) (a .result .now) (a .work .now) _ _ _ _
-    (sym (t .before .before .judge .ensures) ∙ t .enum-told .given .1) (e .1 .1) (c .extremes-of .ensures) (e .0) (e .1 .0)
+    accepted-answer _ (a .width) (a .height) (a .setting) (a .picture .now) (a .result .now) (a .work .now) _ _ _ _
+    (sym (judged (t .before .before)) ∙ t .enum-told .given .1) (fit t) (e .1 .1) (c .extremes-of .ensures) (e .0) (e .1 .0)
 
-pub straighten-spec : {M : Type 1} → statement M
-straighten-spec =
+pub straighten-on-spec : {M : Type 1} → statement M
+straighten-on-spec =
     tie.close
     (tie.spec
-    judge-requires
+    judge-on-requires
     enum-known-verdict
     enum-told
     straighten-accepted-requires
