@@ -3,6 +3,7 @@
 use super::numbers::Numbers;
 use super::{Answer, Extremes, Implementation};
 use reference::second::{Border, Setting, Ticket};
+use std::hint::black_box;
 
 /// Backgrounds that are refused under number 12.
 pub const BAD_BACKGROUNDS: [i32; 4] = [32_768, -32_768, i32::MAX, i32::MIN];
@@ -78,8 +79,10 @@ impl PictureCall {
 
     /// Asks what the call would do; the buffers are to stay as they were.
     pub fn ask(&self, implementation: &dyn Implementation) -> (Answer, Ticket) {
-        let (result, work) = (buffer(self.result_length), buffer(self.work_length));
+        let (mut result, mut work) = (buffer(self.result_length), buffer(self.work_length));
         let asked = implementation.ask(self.size, self.setting, &self.picture, &result, &work);
+        // The compiler may take what was lent to be read as unchanged; from here on it may not.
+        black_box((&mut result, &mut work));
         assert!(untouched_from(0, &result) && untouched_from(0, &work), "an asking wrote to a buffer");
         asked
     }
