@@ -43,10 +43,10 @@
 #include <stdint.h>
 
 /* The version of this header, as text and as its parts. */
-#define STRAIGHTENER_VERSION "0.5.0"
+#define STRAIGHTENER_VERSION "0.5.1"
 #define STRAIGHTENER_VERSION_MAJOR 0
 #define STRAIGHTENER_VERSION_MINOR 5
-#define STRAIGHTENER_VERSION_PATCH 0
+#define STRAIGHTENER_VERSION_PATCH 1
 
 #ifdef __cplusplus
 extern "C" {
@@ -251,6 +251,11 @@ typedef struct {
  * than 3/2 units (kernel 0), 2 units (kernel 1) or 10 units (kernel 2) of 1/128 grey. The result is
  * exact where every line moves by whole samples, and for a picture of one grey whose border is wrapped
  * or whose background has that grey too.
+ * With kernel 0 no sample of the result lies below the smallest or above the largest of the picture's
+ * samples, the background being one of them where it is set: linear never overshoots. With kernels 0 and
+ * 1, of two accepted calls that are alike but that the second has one number added to every sample and to
+ * the background, the second's samples, smallest and largest are higher by that number, and its count is
+ * the same.
  */
 straightener_answer straightener_straighten(size_t width, size_t height, straightener_setting setting,
                                             const int32_t *picture, size_t picture_len,
@@ -309,7 +314,10 @@ size_t straightener_work_places(size_t width, size_t height);
  * Refuses under 1, 2, 4, 5, 12, 6 (with row 0). The count is 1 if the line was interpolated, 0 if it moved
  * by whole samples or, on background, by n samples or more either way, which makes it all background. The
  * smallest and the largest sample are those of the result's n places: where they lie beyond every sample
- * of the line, and beyond the background, the kernel has overshot.
+ * of the line, and beyond the background, the kernel has overshot, which linear never does. With kernels
+ * 0 and 1, of two accepted calls that are alike but that the second has one number added to every sample
+ * and to the background, the second's samples, smallest and largest are higher by that number, and its
+ * count is the same.
  */
 straightener_answer straightener_move_line(size_t n, uint32_t kernel, int32_t d,
                                            uint32_t border, int32_t background,

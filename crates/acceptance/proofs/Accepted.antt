@@ -17,7 +17,7 @@ use Rattle.refusals.specs.declared.Verdict.the-variants.{Accepted, Refused}
 use Rattle.refusals.specs.Tests.{badSide, badSize, short, badKernel, beyondOf, firstBad}
 use Rattle.refusals.specs.Judging.{refusedIf, ofFound, numberOf, rowOf, columnOf}
 use Rattle.refusals.proofs.Tests.{or-false, size-good, short-good, kernel-good, beyond-good, good-beyond}
-use Rattle.refusals.proofs.Judging.{refusedIf-accepted, ofFound-accepted}
+use Rattle.refusals.proofs.Judging.{refusedIf-accepted, ofFound-accepted, AcceptedByZero, by-zero-if, by-zero-found}
 use Rattle.refusals.proofs.First.{nothing-bad, BadAt, first-bad}
 use Rattle.settings.specs.declared.Setting.{Setting}
 use Rattle.moves.specs.Border.{badBackground}
@@ -62,18 +62,6 @@ zero-if false number later z other = z other
 zero-found : (f : Found) → ZeroButSix (ofFound f)
 zero-found Nothing other = (refl, refl)
 zero-found (At row column) other = absurd (other refl)
-
--- number 0 says that a call is accepted
-abbrev AcceptedByZero : Verdict → Type 0
-AcceptedByZero v = numberOf v ≡ 0 → v ≡ Accepted
-
-by-zero-if : (t : Bool) (number : ℕ) (later : Verdict) → (number ≡ 0 → ⊥) → AcceptedByZero later → AcceptedByZero (refusedIf t number later)
-by-zero-if true number later some z e = absurd (some e)
-by-zero-if false number later some z e = z e
-
-by-zero-found : (f : Found) → AcceptedByZero (ofFound f)
-by-zero-found Nothing e = refl
-by-zero-found (At row column) e = absurd (omega arith)
 
 module _ (W H : ℕ) (s : Setting) (picture : List ℤ) (result work : ℕ) where
   -- past every other test the samples alone are judged

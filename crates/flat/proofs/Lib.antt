@@ -2,8 +2,10 @@
 --     Figures    what each case of an answer is laid out as
 --     Settings   a flat setting and its changes
 --     Tickets    a flat ticket, and the two calls that it goes between
+--     Range      linear's range, and a number added to all samples, as C and Rust are told
 --     Examples   answers of the calls, laid out and computed
 pub mod Figures
 pub mod Settings
 pub mod Tickets
+pub mod Range
 pub mod Examples

@@ -1,5 +1,5 @@
 -- The lowest number that applies to a line, as the code judges it; and the straightener's verdict on a line that none applies to: its lent
--- places are enough and its samples are in range. Assumes nothing.
+-- places are enough and its samples are in range. Under linear its answer keeps the range of its samples. Assumes nothing.
 use Prim.Native.Nat.{ℕ, suc, _*_, _≤_, _<_, max}
 use mathlib.Core.Bool.{Bool, true, false, cond}
 use mathlib.Core.List.{List}
@@ -13,9 +13,13 @@ use lib.ListN.{length}
 use Rattle.arith.proofs.Laws.{natAbs-negℤ}
 use Rattle.lists.proofs.Table.{every, at}
 use Rattle.lists.specs.Line.{line}
+use Rattle.settings.specs.declared.Border.the-variants.{Wrapped}
 use Rattle.moves.specs.Border.{badBackground}
+use Rattle.moves.specs.Range.{InRange}
+use Rattle.moves.proofs.Range.{kernel-linear}
 use Rattle.passes.specs.Picture.{straighten}
 use Rattle.passes.proofs.Places.{length-pictured}
+use Rattle.passes.proofs.Range.{straighten-in-range}
 use Rattle.refusals.specs.Tests.{badSize, badKernel, short}
 use Rattle.refusals.specs.declared.Verdict.the-variants.{Accepted}
 use Rattle.refusals.proofs.Tests.{size-good, beyond-good, good-beyond}
@@ -26,7 +30,7 @@ use Rattle.steps.specs.Step.{entry, beyond, S, changeOf}
 use Rattle.acceptance.specs.Judge.{range, tooShort, badCentre, badShears, judgedOn, judged}
 use Rattle.format.specs.Answer.{changeIn, settingIn, numberOf, straightenedOf}
 use Rattle.format.specs.Answered.{lowest, workIn}
-use Rattle.format.specs.Line.{kernelIn, stepIn, widthIn, heightIn, sizeIn}
+use Rattle.format.specs.Line.{kernelIn, stepIn, widthIn, heightIn, sizeIn, samplesIn}
 
 -- ---- a step within its range makes shears within theirs
 every-small : T (every (λ t s. leb s 4096) 0 sines)
@@ -118,3 +122,10 @@ verdict-accepted l picture m k e hp hm hk within =
 pub straightened-length : (l : List ℕ) → length (straightenedOf l) ≡ sizeIn l
 unfolding straightenedOf straighten
 straightened-length l = length-pictured (widthIn l) (heightIn l) _
+
+-- and under linear these lie in the range of the line's own samples (Q-12)
+pub line-in-range : (l : List ℕ) → numberOf l ≡ 0 → kernelIn l ≡ 0 → InRange Wrapped (sizeIn l) (samplesIn l) (straightenedOf l)
+unfolding straightenedOf
+line-in-range l e linear i k =
+    let size = size-good (none l e .size) in
+    rw (kernel-linear (kernelIn l) linear) (straighten-in-range Wrapped _ _ (size .0 .0) (size .1 .0) (samplesIn l) i k)

@@ -1,14 +1,14 @@
 -- The call that moves one line: what an accepted call has passed, what its buffers hold at each step, and the answer in either case.
 -- Assumes nothing.
-use mathlib.Core.Path.{_≡_, refl, sym, ap, _∙_}
+use mathlib.Core.Path.{_≡_, refl, sym, ap, _∙_, subst}
 use mathlib.Core.Bool.{Bool, false, _||_, cond}
 use mathlib.Core.List.{List, _++_}
 use Prim.Native.Nat.{ℕ, _+_, _*_, _-_, _≤_, _<_}
 use native.Mathlib.Omega.{arith}
 use lib.Dec.{ltb}
 use lib.IntN.{ℤ, pos, natAbs}
-use lib.ListN.{length, getD, take, drop, replicate}
-use lib.Seq.{length-take-le, drop-at, drop-drop}
+use lib.ListN.{length, getD, take, drop, replicate, List·getD-append}
+use lib.Seq.{length-take-le, getD-take, drop-at, drop-drop}
 use Rattle.arith.specs.Move.{fraction}
 use Rattle.arith.proofs.Within.{size-within}
 use Rattle.lists.specs.Line.{line, rolled}
@@ -24,15 +24,17 @@ use Rattle.refusals.specs.Judging.{whenAccepted}
 use Rattle.refusals.specs.Judging as judging
 use Rattle.refusals.proofs.Tests.{or-false, side-good, short-good, kernel-good, beyond-good}
 use Rattle.refusals.proofs.First.{nothing-bad}
-use Rattle.refusals.proofs.Judging.{refusedIf-accepted, ofFound-accepted}
+use Rattle.refusals.proofs.Judging.{refusedIf-accepted, ofFound-accepted, AcceptedByZero, by-zero-if, by-zero-found}
 use Rattle.settings.specs.declared.Border.{Border}
 use Rattle.kernels.specs.Kernel.{Kernel, kernelOf}
 use Rattle.moves.specs.declared.Part.{Part}
 use Rattle.moves.specs.Border.{bordered, moveIn, badBackground, grey}
 use Rattle.moves.specs.InPlace.{prepared}
+use Rattle.moves.specs.Range.{lowest, highest, Between, InRange}
 use Rattle.moves.specs.Row.{places, setIn, startAt, held, Covers, loadedOf, weighedPart, Alike}
 use Rattle.moves.proofs.Border.{moveIn-length, held-fraction, background-good}
 use Rattle.moves.proofs.Kept.{kept-in-place}
+use Rattle.moves.proofs.Range.{background-between, samples-between, extremes-in-range, moveIn-between, kernel-linear}
 use Rattle.lines.specs.declared.LineOutcome.the-variants.{Moved, Refused}
 use Rattle.lines.specs.Answer.{farthest, range, workPlaces, tooShort, judged, Movable, isInterpolated, outcomeOf, LineMoved}
 
@@ -67,6 +69,30 @@ module _ (n kernel : ℕ) (d : ℤ) (β : Border) (line : List ℤ) (result work
         samples = λ k l. six k (omega arith);
       }
 
+-- number 0 says that the call is accepted
+pub zero-accepted : (n kernel : ℕ) (d : ℤ) (β : Border) (line : List ℤ) (result work : ℕ) → AcceptedByZero (judged n kernel d β line result work)
+unfolding judged
+zero-accepted n kernel d β line result work =
+    by-zero-if (badSide n) 1 _ (λ e. omega arith) (by-zero-if (tooShort n (length line) result work) 2 _ (λ e. omega arith)
+    (by-zero-if (beyondOf farthest d) 4 _ (λ e. omega arith) (by-zero-if (badKernel kernel) 5 _ (λ e. omega arith)
+    (by-zero-if (badBackground β) 12 _ (λ e. omega arith) (by-zero-found (firstBad range n 1 line))))))
+
+-- ---- the places of the result that hold the moved line
+module _ {n kernel : ℕ} {d : ℤ} {β : Border} {line₀ : List ℤ} {result work : ℕ} (m : Movable n kernel d β line₀ result work) where
+  pub taken : length (take n line₀) ≡ n
+  taken = length-take-le n line₀ (m .line-room)
+
+  pub moved-at : (later : List ℤ) (k : ℕ) → k < n → line (moveIn β (kernelOf kernel) d (take n line₀) ++ later) k ≡ line (moveIn β (kernelOf kernel) d (take n line₀)) k
+  moved-at later k l = List·getD-append (moveIn β (kernelOf kernel) d (take n line₀)) later (pos 0) k (omega (arith, moveIn-length β (kernelOf kernel) d (take n line₀), taken))
+
+  -- under linear they lie in the range of the line's samples and the background
+  pub moved-in-range : (later : List ℤ) → kernel ≡ 0 → InRange β n line₀ (moveIn β (kernelOf kernel) d (take n line₀) ++ later)
+  moved-in-range later e k l =
+      rw (moved-at later k l, kernel-linear kernel e)
+      (moveIn-between β _ _ d (take n line₀) (background-between n line₀ (m .some) β)
+      (λ j i. subst (Between (lowest β n line₀) (highest β n line₀)) (sym (getD-take n line₀ j (pos 0) (omega (arith, taken)))) (samples-between n line₀ (m .some) β j (omega (arith, taken))))
+      k (omega (arith, taken)))
+
 -- ---- the answer, refused and accepted
 module _ (n kernel : ℕ) (d : ℤ) (β : Border) (line result work : List ℤ) where
   pub line-refused : (number row column : ℕ) → judged n kernel d β line (length result) (length work) ≡ verdict.Refused number row column
@@ -83,6 +109,8 @@ module _ (n kernel : ℕ) (d : ℤ) (β : Border) (line result work : List ℤ) 
         largest = rw e refl;
         result = ap (λ v. whenAccepted v (moveIn β (kernelOf kernel) d (take n line) ++ drop n result) result) (sym e);
         work = ap (λ v. whenAccepted v (replicate (6 * n) (pos 0) ++ drop (6 * n) work) work) (sym e);
+        no-overshoot = λ a. let z : _≡_ {A = ℕ} 0 1 = cc in absurd (omega arith);
+        told-in-range = λ a. let z : _≡_ {A = ℕ} 0 1 = cc in absurd (omega arith);
       }
 
   pub line-moved : (result′ work′ : List ℤ) (interpolated : Bool) (extremes : Extremes) → judged n kernel d β line (length result) (length work) ≡ verdict.Accepted
@@ -101,6 +129,8 @@ module _ (n kernel : ℕ) (d : ℤ) (β : Border) (line result work : List ℤ) 
         largest = rw (e, moved) refl;
         result = r ∙ ap (λ v. whenAccepted v (moveIn β (kernelOf kernel) d (take n line) ++ drop n result) result) (sym e);
         work = w ∙ ap (λ v. whenAccepted v (replicate (6 * n) (pos 0) ++ drop (6 * n) work) work) (sym e);
+        no-overshoot = λ a linear. within (omega (arith, linear));
+        told-in-range = λ a linear. rw x (extremes-in-range β n line result′ (m .some) (within (omega (arith, linear))));
       }
     where
       m : Movable n kernel d β line (length result) (length work)
@@ -110,7 +140,10 @@ module _ (n kernel : ℕ) (d : ℤ) (β : Border) (line result work : List ℤ) 
       moved : extremes ≡ extremesOf n (moveIn β (kernelOf kernel) d (take n line))
       moved =
           x ∙ ap (extremesOf n) r
-          ∙ extremes-first n (moveIn β (kernelOf kernel) d (take n line)) (drop n result) (m .some) (omega (arith, moveIn-length β (kernelOf kernel) d (take n line), length-take-le n line (m .line-room)))
+          ∙ extremes-first n (moveIn β (kernelOf kernel) d (take n line)) (drop n result) (m .some) (omega (arith, moveIn-length β (kernelOf kernel) d (take n line), taken m))
+
+      within : kernel ≡ 0 → InRange β n line result′
+      within linear = subst (InRange β n line) (sym r) (moved-in-range m (drop n result) linear)
 
 -- ---- the buffers
 -- the first n places of a line are the line from its first place on

@@ -6,6 +6,7 @@ use Prim.Native.Nat.{ℕ, _*_, _≤_}
 use lib.Dec.{ltb}
 use lib.IntN.{ℤ, pos, natAbs}
 use lib.ListN.{length, take, drop, replicate}
+use lib.Signed.{_≤ℤ_}
 use Rattle.lists.specs.declared.Extremes.{Extremes}
 use Rattle.lists.specs.Ends.{extremesOf}
 use Rattle.refusals.specs.declared.Verdict.{Verdict}
@@ -16,6 +17,7 @@ use Rattle.refusals.specs.Judging as judging
 use Rattle.settings.specs.declared.Border.{Border}
 use Rattle.kernels.specs.Kernel.{kernelOf}
 use Rattle.moves.specs.Border.{moveIn, fractionIn, badBackground, grey}
+use Rattle.moves.specs.Range.{lowest, highest, InRange}
 use Rattle.lines.specs.declared.LineOutcome.{LineOutcome}
 use Rattle.lines.specs.declared.LineOutcome.the-variants.{Moved, Refused}
 
@@ -114,3 +116,7 @@ pub record LineMoved (n kernel : ℕ) (d : ℤ) (β : Border) (line result₀ wo
   -- accepted, the first 6n places hold 0
   pub work :
       work₁ ≡ whenAccepted (judged n kernel d β line (length result₀) (length work₀)) (replicate (6 * n) (pos 0) ++ drop (6 * n) work₀) work₀
+  -- accepted under linear, kernel 0, every sample lies in the range of the line's samples and the background, and so do the extremes that are told
+  pub no-overshoot : judged n kernel d β line (length result₀) (length work₀) ≡ verdict.Accepted → kernel ≡ 0 → InRange β n line result₁
+  pub told-in-range : judged n kernel d β line (length result₀) (length work₀) ≡ verdict.Accepted → kernel ≡ 0
+      → (lowest β n line ≤ℤ smallestOf r) × (largestOf r ≤ℤ highest β n line)

@@ -1,5 +1,5 @@
 -- The smallest is not above any of the numbers and is one of them; the largest is not below any and is one of them. Both by one law, over
--- the pick of two. Those of the rows of a picture are those of all its samples. Assumes nothing.
+-- the pick of two. A number added to every sample is added to them. Those of the rows of a picture are those of all its samples. Assumes nothing.
 use Prim.Native.Nat.{ℕ, zero, suc, _+_, _*_, _/_, _%_, _≤_, _<_}
 use mathlib.Core.Path.{_≡_, refl, sym, ap₂, _∙_, subst}
 use mathlib.Core.Logic.{_⊎_, inl, inr, ⊎-elim}
@@ -8,11 +8,11 @@ use native.Mathlib.Numerals.{add-one}
 use native.Mathlib.Omega.{arith}
 use mathlib.Core.List.{List, [], _∷_, _++_}
 use lib.Arith.{digits-div, digits-mod}
-use lib.IntN.{ℤ, pos, negsuc, natAbs}
+use lib.IntN.{ℤ, pos, negsuc, _+ℤ_}
 use lib.ListN.{length, List·getD-append}
 use lib.Signed.{_≤ℤ_}
 use Rattle.arith.specs.Whole.{minℤ, maxℤ}
-use Rattle.arith.proofs.Bridge.{bridge, all2}
+use Rattle.arith.proofs.Bridge.{bridge, all2, all3}
 use Rattle.arith.proofs.Laws.{≤ℤ-trans, ≤ℤ-antisym, ≤ℤ-total}
 use Rattle.lists.specs.Line.{Line, line}
 use Rattle.lists.specs.Ends.{picked, smallest, largest, extremesOf, smallestInRows, largestInRows}
@@ -87,10 +87,10 @@ module _ (of : ℤ → ℤ → ℤ) (R : ℤ → ℤ → Type 0) (R-trans : (x y
           (eq-or-lt-of-le (le-of-suc-le-suc l))
 
 -- ---- the pick of two
-min-left : (x y : ℤ) → minℤ x y ≤ℤ x
+pub min-left : (x y : ℤ) → minℤ x y ≤ℤ x
 min-left = all2 _ (simp bridge (omega arith))
 
-min-right : (x y : ℤ) → minℤ x y ≤ℤ y
+pub min-right : (x y : ℤ) → minℤ x y ≤ℤ y
 min-right = all2 _ (simp bridge (omega arith))
 
 min-low : (x y : ℤ) → x ≤ℤ y → minℤ x y ≡ x
@@ -99,10 +99,10 @@ min-low = all2 _ (simp bridge (omega arith))
 min-high : (x y : ℤ) → y ≤ℤ x → minℤ x y ≡ y
 min-high = all2 _ (simp bridge (omega arith))
 
-max-left : (x y : ℤ) → x ≤ℤ maxℤ x y
+pub max-left : (x y : ℤ) → x ≤ℤ maxℤ x y
 max-left = all2 _ (simp bridge (omega arith))
 
-max-right : (x y : ℤ) → y ≤ℤ maxℤ x y
+pub max-right : (x y : ℤ) → y ≤ℤ maxℤ x y
 max-right = all2 _ (simp bridge (omega arith))
 
 max-low : (x y : ℤ) → x ≤ℤ y → maxℤ x y ≡ y
@@ -126,12 +126,32 @@ largest-is f (suc n) h = picked-is maxℤ (λ x y. y ≤ℤ x) (λ x y z h k. �
     either : (x y : ℤ) → (maxℤ x y ≡ x) ⊎ (maxℤ x y ≡ y)
     either x y = ⊎-elim (λ h. inr (max-low x y h)) (λ h. inl (max-high x y h)) (≤ℤ-total x y)
 
--- one of the samples is in their range
-pub extreme-within : (R : ℤ → ℤ → Type 0) (limit n : ℕ) (s : List ℤ) (v : ℤ)
-    → Extreme R (line s) n v
-    → ((k : ℕ) → k < n → natAbs (line s k) ≤ limit)
-    → natAbs v ≤ limit
-extreme-within R limit n s v e h = subst (λ (x : ℤ). natAbs x ≤ limit) (sym (e .there)) (h (e .place) (e .inside))
+-- being one of the samples, it has what they all have
+pub extreme-has : (R : ℤ → ℤ → Type 0) (P : ℤ → Type 0) (f : Line) (n : ℕ) (v : ℤ) → Extreme R f n v → ((k : ℕ) → k < n → P (f k)) → P v
+extreme-has R P f n v e each = subst P (sym (e .there)) (each (e .place) (e .inside))
+
+-- ---- a number added to every sample is added to the smallest and to the largest
+picked-plus : (of : ℤ → ℤ → ℤ) → ((x y c : ℤ) → of (x +ℤ c) (y +ℤ c) ≡ of x y +ℤ c) → (c : ℤ) (f g : Line) (n : ℕ) → 1 ≤ n
+    → ((k : ℕ) → k < n → g k ≡ f k +ℤ c) → picked of g n ≡ picked of f n +ℤ c
+unfolding picked
+picked-plus of both c f g n some each = from n each
+  where
+    from : (m : ℕ) → ((k : ℕ) → k < m → g k ≡ f k +ℤ c) → picked of g m ≡ picked of f m +ℤ c
+    from zero h = each 0 some
+    from (suc m) h = ap₂ of (from m (λ k l. h k (omega arith))) (h m (omega arith)) ∙ both (picked of f m) (f m) c
+
+module _ (c : ℤ) (f g : Line) (n : ℕ) (some : 1 ≤ n) (each : (k : ℕ) → k < n → g k ≡ f k +ℤ c) where
+  pub smallest-plus : smallest g n ≡ smallest f n +ℤ c
+  smallest-plus = picked-plus minℤ both c f g n some each
+    where
+      both : (x y c : ℤ) → minℤ (x +ℤ c) (y +ℤ c) ≡ minℤ x y +ℤ c
+      both = all3 _ (simp bridge (omega arith))
+
+  pub largest-plus : largest g n ≡ largest f n +ℤ c
+  largest-plus = picked-plus maxℤ both c f g n some each
+    where
+      both : (x y c : ℤ) → maxℤ (x +ℤ c) (y +ℤ c) ≡ maxℤ x y +ℤ c
+      both = all3 _ (simp bridge (omega arith))
 
 -- ---- rows
 module _ (of : ℤ → ℤ → ℤ) (R : ℤ → ℤ → Type 0) (R-trans : (x y z : ℤ) → R x y → R y z → R x z) (R-antisym : (x y : ℤ) → R x y → R y x → x ≡ y)

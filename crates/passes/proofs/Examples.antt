@@ -1,20 +1,26 @@
 -- Small pictures straightened, computed pass by pass. Their passes overshoot below 0 and above the input, and the spline's coefficients
--- differ from pass to pass; one stands on background, and one of its columns becomes all background. Assumes nothing.
-use mathlib.Core.Path.{_≡_, refl, _∙_}
-use mathlib.Core.List.{[], _∷_, map}
+-- differ from pass to pass; one stands on background, and one of its columns becomes all background. The last ones are why document 02's Q-12 leaves
+-- kernels out. Assumes nothing.
+use mathlib.Core.Path.{_≡_, refl, sym, ap, _∙_, subst}
+use mathlib.Core.List.{List, [], _∷_, map}
+use Prim.Native.Nat.{ℕ, _<_}
+use native.Mathlib.Omega.{arith}
 use lib.Dec.{lit<}
-use lib.IntN.{pos, negsuc}
-use Rattle.arith.specs.Whole.{floor, remainder, round}
+use lib.IntN.{ℤ, pos, negsuc, _+ℤ_}
+use lib.Signed.{_≤ℤ_}
+use Rattle.arith.specs.Whole.{floor, remainder, round, minℤ}
 use Rattle.arith.specs.Sum.{Σ}
 use Rattle.arith.specs.Move.{fraction, whole}
 use Rattle.lists.specs.Tab.{tab}
-use Rattle.lists.specs.Line.{wrap}
+use Rattle.lists.specs.Line.{wrap, line}
+use Rattle.lists.specs.Ends.{picked}
 use Rattle.settings.specs.declared.Border.{Border}
 use Rattle.settings.specs.declared.Border.the-variants.{Wrapped, Background}
-use Rattle.kernels.specs.Kernel.{Keys, Spline, weigh}
+use Rattle.kernels.specs.Kernel.{Kernel, Keys, Spline, weigh}
 use Rattle.spline.specs.Coefficients.{filter, run, u, down, back, v, scaled, coefficient}
 use Rattle.moves.specs.Move.{first, mixed, source, moved}
 use Rattle.moves.specs.Border.{framed, far, bordered, gone, fractionIn}
+use Rattle.moves.specs.Range.{InRange, Raised}
 use Rattle.passes.specs.Picture.{picture, pictured, shear, rows-moved, straighten}
 use Rattle.passes.specs.Count.{interpolated, count}
 use Rattle.passes.proofs.Stages.{rows-pass, columns-pass, straighten-stages}
@@ -79,3 +85,58 @@ pub keys-four-by-two-counts :
     map (λ (e : Border). count e 4 2 (shear (pos 1000) 0) (shear (pos 3000) 0)) (Background (pos 7) ∷ Wrapped ∷ []) ≡ 4 ∷ 5 ∷ []
 unfolding floor remainder fraction far gone fractionIn interpolated count
 keys-four-by-two-counts = refl
+
+-- ---- Q-12: pictures of 2 columns that passes 1 and 3 leave as they are, while pass 2 moves column 1 by half a sample
+abbrev still : ℕ → ℤ
+still = shear (pos 0) 0
+
+abbrev half : ℕ → ℤ
+half = shear (negsuc 2047) 0
+
+halfway : (κ : Kernel) (H : ℕ) (s t : List ℤ) → 0 < H → rows-pass Wrapped κ 2 H still s ≡ s → columns-pass Wrapped κ 2 H half s ≡ t → rows-pass Wrapped κ 2 H still t ≡ t
+    → straighten Wrapped κ 2 H still half s ≡ t
+halfway κ H s t some one two three = straighten-stages Wrapped κ still half s (lit< tt) some ∙ rw (one, two) three
+
+-- Keys and the spline overshoot: -1 and -25 from samples of 0 to 16 and of 0 to 100
+abbrev peak : List ℤ
+peak = pos 0 ∷ pos 0 ∷ pos 0 ∷ pos 0 ∷ pos 0 ∷ pos 16 ∷ pos 0 ∷ pos 0 ∷ []
+
+keys-peak : straighten Wrapped Keys 2 4 still half peak ≡ pos 0 ∷ negsuc 0 ∷ pos 0 ∷ pos 9 ∷ pos 0 ∷ pos 9 ∷ pos 0 ∷ negsuc 0 ∷ []
+unfolding floor remainder round Σ fraction whole tab wrap weigh first mixed source moved bordered picture pictured rows-moved rows-pass columns-pass
+keys-peak = halfway Keys 4 peak (pos 0 ∷ negsuc 0 ∷ pos 0 ∷ pos 9 ∷ pos 0 ∷ pos 9 ∷ pos 0 ∷ negsuc 0 ∷ []) (lit< tt) refl refl refl
+
+pub keys-overshoots : InRange Wrapped 8 peak (straighten Wrapped Keys 2 4 still half peak) → ⊥
+unfolding picked minℤ
+keys-overshoots within = subst (λ (t : List ℤ). pos 0 ≤ℤ line t 1) keys-peak (within 1 (lit< tt) .0) .le
+
+abbrev edge : List ℤ
+edge = pos 0 ∷ pos 0 ∷ pos 0 ∷ pos 0 ∷ pos 0 ∷ pos 100 ∷ []
+
+spline-edge : straighten Wrapped Spline 2 3 still half edge ≡ pos 0 ∷ negsuc 24 ∷ pos 0 ∷ pos 62 ∷ pos 0 ∷ pos 62 ∷ []
+unfolding floor remainder round Σ fraction whole tab wrap weigh filter run u down back v scaled coefficient first mixed source moved bordered picture pictured rows-moved rows-pass columns-pass
+spline-edge = halfway Spline 3 edge (pos 0 ∷ negsuc 24 ∷ pos 0 ∷ pos 62 ∷ pos 0 ∷ pos 62 ∷ []) (lit< tt) refl refl refl
+
+pub spline-overshoots : InRange Wrapped 6 edge (straighten Wrapped Spline 2 3 still half edge) → ⊥
+unfolding picked minℤ
+spline-overshoots within = subst (λ (t : List ℤ). pos 0 ≤ℤ line t 1) spline-edge (within 1 (lit< tt) .0) .le
+
+-- and where 1 is added to every sample, the spline adds 2 to column 1
+abbrev five : List ℤ
+five = pos 0 ∷ pos 5 ∷ pos 0 ∷ pos 0 ∷ []
+
+abbrev six : List ℤ
+six = pos 1 ∷ pos 6 ∷ pos 1 ∷ pos 1 ∷ []
+
+spline-five : straighten Wrapped Spline 2 2 still half five ≡ pos 0 ∷ pos 2 ∷ pos 0 ∷ pos 2 ∷ []
+unfolding floor remainder round Σ fraction whole tab wrap weigh filter run u down back v scaled coefficient first mixed source moved bordered picture pictured rows-moved rows-pass columns-pass
+spline-five = halfway Spline 2 five (pos 0 ∷ pos 2 ∷ pos 0 ∷ pos 2 ∷ []) (lit< tt) refl refl refl
+
+spline-six : straighten Wrapped Spline 2 2 still half six ≡ pos 1 ∷ pos 4 ∷ pos 1 ∷ pos 4 ∷ []
+unfolding floor remainder round Σ fraction whole tab wrap weigh filter run u down back v scaled coefficient first mixed source moved bordered picture pictured rows-moved rows-pass columns-pass
+spline-six = halfway Spline 2 six (pos 1 ∷ pos 4 ∷ pos 1 ∷ pos 4 ∷ []) (lit< tt) refl refl refl
+
+pub spline-adds-not : Raised (pos 1) 4 (straighten Wrapped Spline 2 2 still half five) (straighten Wrapped Spline 2 2 still half six) → ⊥
+spline-adds-not added =
+    let e : pos 4 ≡ pos 3 = ap (λ (t : List ℤ). line t 1) (sym spline-six) ∙ added 1 (lit< tt) ∙ ap (λ (t : List ℤ). line t 1 +ℤ pos 1) spline-five in
+    let z : _≡_ {A = ℕ} 4 3 = cc in
+    omega arith

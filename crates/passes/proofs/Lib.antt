@@ -3,9 +3,11 @@
 --     Rows       a row of pass 1 depends on that row and the setting only
 --     Stages     the passes one after the other, as lists
 --     Count      the count is at most 2(H-1) + (W-1)
+--     Range      linear keeps the range of the samples and the background; linear and Keys add what is added to all of them
 --     Examples   small pictures, computed
 pub mod Places
 pub mod Rows
 pub mod Stages
 pub mod Count
+pub mod Range
 pub mod Examples

@@ -8,7 +8,9 @@ use lib.IntN.{ℤ, pos}
 use lib.ListN.{length}
 use Rattle.lists.specs.Line.{line}
 use Rattle.lists.proofs.Tab.{tab-length, tab-at, tab-ext}
-use Rattle.passes.specs.Picture.{Picture, picture, pictured, Places}
+use Rattle.settings.specs.declared.Border.{Border}
+use Rattle.kernels.specs.Kernel.{Kernel}
+use Rattle.passes.specs.Picture.{Picture, picture, pictured, Places, straightened, straighten}
 
 pub inside : (W H y x : ℕ) → y < H → x < W → y * W + x < W * H
 inside W H y x hy hx = omega (arith, mul-le-mul-right W hy)
@@ -40,3 +42,9 @@ at-index {W} {H} A h each i l = each (i / W) (i % W) (div-lt-iff-lt-mul h .1 (om
 pub pictured-same : {W H : ℕ} (p p′ : Picture) → 0 < W → Places W H (λ y x. p y x ≡ p′ y x) → pictured W H p ≡ pictured W H p′
 unfolding pictured
 pictured-same {W} {H} p p′ h same = tab-ext (λ i. p (i / W) (i % W)) (λ i. p′ (i / W) (i % W)) (W * H) (λ i l. at-index (λ y x. p y x ≡ p′ y x) h same i l)
+
+-- each sample of a straightened list is one of a row of pass 3
+pub straighten-at : (β : Border) (κ : Kernel) (W H : ℕ) (rows columns : ℕ → ℤ) (s : List ℤ) (i : ℕ) → i < W * H
+    → line (straighten β κ W H rows columns s) i ≡ straightened β κ W H rows columns (picture W s) (i / W) (i % W)
+unfolding straighten
+straighten-at β κ W H rows columns s i l = pictured-at W H (straightened β κ W H rows columns (picture W s)) i l

@@ -3,6 +3,7 @@ use Prim.Native.Nat.{ℕ, _+_, _*_, _/_, _%_, _≤_, _<_, max}
 use mathlib.Core.Path.{_≡_, refl, sym, ap, _∙_, subst}
 use mathlib.Core.Bool.{Bool}
 use mathlib.Core.List.{List, _++_}
+use native.Mathlib.Nat.{mul-pos}
 use native.Mathlib.Omega.{arith}
 use lib.IntN.{ℤ, pos, natAbs}
 use lib.ListN.{length, take, drop, replicate}
@@ -18,19 +19,22 @@ use Rattle.refusals.proofs.First.{BadAt}
 use Rattle.settings.specs.declared.Setting.{Setting}
 use Rattle.settings.specs.declared.Border.{Border}
 use Rattle.kernels.specs.Kernel.{Kernel}
-use Rattle.passes.specs.Picture.{Picture, picture, straightened, straighten, Places, rows-moved}
+use Rattle.moves.specs.Range.{InRange}
+use Rattle.moves.proofs.Range.{extremes-in-range, kernel-linear}
+use Rattle.passes.specs.Picture.{Picture, picture, straighten, Places, rows-moved}
 use Rattle.passes.specs.Count.{count}
-use Rattle.passes.proofs.Places.{inside, pictured-at, pictured-same}
+use Rattle.passes.proofs.Places.{inside, pictured-same, straighten-at}
 use Rattle.passes.proofs.Rows.{moved-row-alone}
 use Rattle.passes.proofs.Count.{count-bound}
 use Rattle.passes.proofs.Stages.{rows-pass, columns-pass, rows-pass-length, straighten-stages}
+use Rattle.passes.proofs.Range.{straighten-in-range}
 use Rattle.exact.specs.Limits.{Demand3}
 use Rattle.exact.proofs.Straighten.{straighten-size}
 use Rattle.exact.proofs.Demand.{straighten-demand3}
 use Rattle.acceptance.specs.Judge.{range, judgedOn, Fit}
 use Rattle.acceptance.proofs.Accepted.{fit-range, refused-sample, refused-zero}
 use Rattle.pictures.specs.declared.Outcome.{Outcome}
-use Rattle.pictures.specs.Answer.{numberOf, rowOf, columnOf, outcomeOf, kernelIn, rowMoves, columnMoves, thirdRows, Answered}
+use Rattle.pictures.specs.Answer.{numberOf, rowOf, columnOf, outcomeOf, kernelIn, rowMoves, columnMoves, thirdRows, Answered, AnswerOn}
 use Rattle.pictures.specs.declared.Outcome.the-variants as variants
 
 -- ---- the places of the picture after its first W·H are not read
@@ -54,11 +58,23 @@ module _ (β : Border) (κ : Kernel) (W H : ℕ) (rows columns : ℕ → ℤ) (s
   pub straighten-length : length (straighten β κ W H rows columns s) ≡ W * H
   straighten-length = ap length (straighten-stages β κ rows columns s hW hH) ∙ rows-pass-length β κ W H rows _
 
--- each sample that the call writes is one of a row of pass 3
-straighten-at : (β : Border) (κ : Kernel) (W H : ℕ) (rows columns : ℕ → ℤ) (s : List ℤ) (i : ℕ) → i < W * H
-    → line (straighten β κ W H rows columns s) i ≡ straightened β κ W H rows columns (picture W s) (i / W) (i % W)
-unfolding straighten
-straighten-at β κ W H rows columns s i l = pictured-at W H (straightened β κ W H rows columns (picture W s)) i l
+-- ---- what stands in the first W·H places of the result that an accepted call leaves
+module _ {W H : ℕ} {s : Setting} {picture : List ℤ} {places work : ℕ} (f : Fit W H s picture places work) (result result′ : List ℤ)
+    (done : result′ ≡ straighten (s .border) (kernelIn s) W H (rowMoves s) (columnMoves s) (take (W * H) picture) ++ drop (W * H) result) where
+  pub first-places : take (W * H) result′ ≡ straighten (s .border) (kernelIn s) W H (rowMoves s) (columnMoves s) picture
+  first-places =
+      ap (take (W * H)) done
+      ∙ take-at (straighten (s .border) (kernelIn s) W H (rowMoves s) (columnMoves s) (take (W * H) picture)) (drop (W * H) result) (W * H)
+      (straighten-length (s .border) (kernelIn s) W H (rowMoves s) (columnMoves s) (take (W * H) picture) (f .width .0) (f .height .0))
+      ∙ straighten-takes (s .border) (kernelIn s) W H (rowMoves s) (columnMoves s) picture (f .width .0) (f .height .0)
+
+  pub written-at : (i : ℕ) → i < W * H → line result′ i ≡ line (straighten (s .border) (kernelIn s) W H (rowMoves s) (columnMoves s) picture) i
+  written-at i l = sym (getD-take (W * H) result′ i (pos 0) l) ∙ ap (λ (t : List ℤ). line t i) first-places
+
+  -- under linear they lie in the range of the picture's samples and the background
+  pub written-in-range : s .kernel ≡ 0 → InRange (s .border) (W * H) picture result′
+  written-in-range linear i l =
+      rw (written-at i l, kernel-linear (s .kernel) linear) (straighten-in-range (s .border) (rowMoves s) (columnMoves s) (f .width .0) (f .height .0) picture i l)
 
 -- ---- the picture's copy, and the part of work that is lent, are fit too
 pub copy-fit : {W H : ℕ} {s : Setting} {picture : List ℤ} {result work : ℕ} (copy : List ℤ) (room : ℕ) → Fit W H s picture result work
@@ -98,6 +114,8 @@ module _ (v : Verdict) (W H : ℕ) (s : Setting) (picture result work : List ℤ
         readable = λ a. let z : _≡_ {A = ℕ} 0 1 = cc in absurd (omega arith);
         cleared = rw e refl;
         demand3 = λ a. let z : _≡_ {A = ℕ} 0 1 = cc in absurd (omega arith);
+        no-overshoot = λ a. let z : _≡_ {A = ℕ} 0 1 = cc in absurd (omega arith);
+        told-in-range = λ a. let z : _≡_ {A = ℕ} 0 1 = cc in absurd (omega arith);
       }
 
   pub accepted-answer : (lines : ℕ) (extremes : Extremes) (result′ work′ : List ℤ) → v ≡ Accepted → Fit W H s picture (length result) (length work)
@@ -120,6 +138,8 @@ module _ (v : Verdict) (W H : ℕ) (s : Setting) (picture result work : List ℤ
         readable = λ a i l. rw (sym (getD-take (W * H) result′ i (pos 0) l), first) (straighten-size β κ rows columns picture (f .width .0) (f .height .0) (f .background) in-range i l);
         cleared = rw e zero;
         demand3 = λ a. subst (Demand3 β κ W H rows columns picture) (sym first) (straighten-demand3 β κ W H rows columns picture (f .width .0) (f .height .0) (f .background) in-range);
+        no-overshoot = λ a linear. within (omega (arith, linear));
+        told-in-range = λ a linear. rw found (extremes-in-range β (W * H) picture result′ (mul-pos (f .width .0) (f .height .0)) (within (omega (arith, linear))));
       }
     where
       β : Border
@@ -138,17 +158,17 @@ module _ (v : Verdict) (W H : ℕ) (s : Setting) (picture result work : List ℤ
       in-range = fit-range f
 
       first : take (W * H) result′ ≡ straighten β κ W H rows columns picture
-      first =
-          ap (take (W * H)) done
-          ∙ take-at (straighten β κ W H rows columns (take (W * H) picture)) (drop (W * H) result) (W * H) (straighten-length β κ W H rows columns (take (W * H) picture) (f .width .0) (f .height .0))
-          ∙ straighten-takes β κ W H rows columns picture (f .width .0) (f .height .0)
+      first = first-places f result result′ done
+
+      within : s .kernel ≡ 0 → InRange β (W * H) picture result′
+      within = written-in-range f result result′ done
 
       third : Picture
       third = thirdRows W H s picture
 
       -- the first W·H places of the result are the rows of pass 3, one after the other
       same : (i : ℕ) → i < W * H → third (i / W) (i % W) ≡ line result′ i
-      same i l = sym (straighten-at β κ W H rows columns picture i l) ∙ ap (λ (t : List ℤ). line t i) (sym first) ∙ getD-take (W * H) result′ i (pos 0) l
+      same i l = sym (written-at f result result′ done i l ∙ straighten-at β κ W H rows columns picture i l)
 
 -- the answer leaves nothing open: two calls with one verdict, on the same picture and buffers, come to the same and leave the same
 pub answered-once : {v : Verdict} {W H : ℕ} {s : Setting} {picture result work : List ℤ} {r r₂ : Outcome} {result′ work′ result₂ work₂ : List ℤ}
@@ -164,7 +184,7 @@ six Accepted e = absurd (omega arith)
 six (Refused number row column) e = ap (λ n. Refused n row column) e
 
 module _ (other : Bool) {W H : ℕ} {s : Setting} {picture result work : List ℤ} {r : Outcome} {result′ work′ : List ℤ}
-    (a : Answered (judgedOn other W H s picture (length result) (length work)) W H s picture result work r result′ work′) where
+    (a : AnswerOn other W H s picture result work r result′ work′) where
   pub sample-named : numberOf r ≡ 6 → BadAt range W H picture (rowOf r) (columnOf r)
   sample-named e =
       let v = judgedOn other W H s picture (length result) (length work) in

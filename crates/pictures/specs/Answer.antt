@@ -1,9 +1,11 @@
 -- What the three-pass call answers, and what it leaves in the result and in work. Assumes nothing.
 use Prim.Native.Nat.{ℕ, _+_, _*_, _-_, _≤_, max}
 use mathlib.Core.Path.{_≡_}
+use mathlib.Core.Bool.{Bool, false}
 use mathlib.Core.List.{List, _++_}
 use lib.IntN.{ℤ, pos}
 use lib.ListN.{length, take, drop, replicate}
+use lib.Signed.{_≤ℤ_}
 use Rattle.lists.specs.declared.Extremes.{Extremes}
 use Rattle.lists.specs.Ends.{extremesOf, smallestInRows, largestInRows}
 use Rattle.refusals.specs.declared.Verdict.{Verdict}
@@ -13,10 +15,11 @@ use Rattle.refusals.specs.Judging as verdict
 use Rattle.refusals.specs.Judging.{whenAccepted}
 use Rattle.settings.specs.declared.Setting.{Setting}
 use Rattle.kernels.specs.Kernel.{Kernel, kernelOf}
+use Rattle.moves.specs.Range.{lowest, highest, InRange}
 use Rattle.passes.specs.Picture.{Picture, picture, shear, straightened, straighten}
 use Rattle.passes.specs.Count.{count}
 use Rattle.exact.specs.Limits.{Demand3}
-use Rattle.acceptance.specs.Judge.{judged}
+use Rattle.acceptance.specs.Judge.{judgedOn, judged}
 use Rattle.pictures.specs.declared.Outcome.{Outcome}
 use Rattle.pictures.specs.declared.Outcome.the-variants as variants
 
@@ -78,7 +81,8 @@ outcomeOf v W H s result′ = outcomeBy v (count (s .border) W H (rowMoves s) (c
 -- Accepted, it counts the lines interpolated, at most 2(H-1) + (W-1), and says the smallest and the largest of the samples written, which are those
 -- over the rows of pass 3; the first W·H places of the result hold the three passes of the picture, within the ±1,048,576 that every reading
 -- takes; the first 12·max(W, H) places of work hold 0; and the result keeps demand 3, worked out from the picture and the setting as they were
--- handed in.
+-- handed in. Under linear, kernel 0, every sample of the result lies in the range of the picture's samples and the background (Q-12), and so do the
+-- smallest and the largest that are told.
 pub record Answered (v : Verdict) (W H : ℕ) (s : Setting) (picture result work : List ℤ) (r : Outcome) (result′ work′ : List ℤ) : Type 0 where
   pub outcome : r ≡ outcomeOf v W H s result′
   pub number : numberOf r ≡ verdict.numberOf v
@@ -93,7 +97,14 @@ pub record Answered (v : Verdict) (W H : ℕ) (s : Setting) (picture result work
   pub readable : v ≡ Accepted → AllWithin 1048576 (W * H) result′
   pub cleared : work′ ≡ whenAccepted v (replicate (12 * max W H) (pos 0) ++ drop (12 * max W H) work) work
   pub demand3 : v ≡ Accepted → Demand3 (s .border) (kernelIn s) W H (rowMoves s) (columnMoves s) picture (take (W * H) result′)
+  pub no-overshoot : v ≡ Accepted → s .kernel ≡ 0 → InRange (s .border) (W * H) picture result′
+  pub told-in-range : v ≡ Accepted → s .kernel ≡ 0
+      → (lowest (s .border) (W * H) picture ≤ℤ smallestOf r) × (largestOf r ≤ℤ highest (s .border) (W * H) picture)
 
--- the single call: the verdict is that of its tests
+-- a call whose verdict is that of the tests, on a ticket of another size or not (Q-7)
+abbrev pub AnswerOn : Bool → ℕ → ℕ → Setting → List ℤ → List ℤ → List ℤ → Outcome → List ℤ → List ℤ → Type 0
+AnswerOn other W H s picture result work = Answered (judgedOn other W H s picture (length result) (length work)) W H s picture result work
+
+-- the single call, which is on no ticket
 abbrev pub Answer : ℕ → ℕ → Setting → List ℤ → List ℤ → List ℤ → Outcome → List ℤ → List ℤ → Type 0
-Answer W H s picture result work = Answered (verdictOf W H s picture result work) W H s picture result work
+Answer = AnswerOn false

@@ -9,8 +9,8 @@ ghost use lib.IntN.{pos};
 ghost use lib.ListN.{length, take, drop, replicate};
 ghost use Rattle.passes.specs.Picture.{straighten};
 ghost use Rattle.passes.specs.Count.{count};
-ghost use Rattle.acceptance.specs.Judge.{judgedOn, Fit};
-ghost use Rattle.pictures.specs.Answer.{kernelIn, rowMoves, columnMoves, Answered, Answer};
+ghost use Rattle.acceptance.specs.Judge.{Fit};
+ghost use Rattle.pictures.specs.Answer.{kernelIn, rowMoves, columnMoves, AnswerOn, Answer};
 use lists::Extremes;
 use refusals::Verdict;
 use settings::Setting;
@@ -86,7 +86,7 @@ pub fn straighten_on(
     result: &mut [i32],
     work: &mut [i32],
 ) -> Outcome
-    ensures { λ r. ⌜ Answered (judgedOn other width height setting (now (picture .entry)) (length (now (result .entry))) (length (now (work .entry)))) width height setting (now (picture .entry)) (now (result .entry)) (now (work .entry)) r (now (result .exit)) (now (work .exit)) ⌝ }
+    ensures { λ r. ⌜ AnswerOn other width height setting (now (picture .entry)) (now (result .entry)) (now (work .entry)) r (now (result .exit)) (now (work .exit)) ⌝ }
 {
     let verdict = acceptance::judge_on(
         other,
@@ -108,7 +108,8 @@ pub fn straighten_on(
 }
 
 // Straightens a picture of `width` by `height` samples into `result`, with the kernel, the centre, the shears and the border of `setting`. `work` lends
-// 12·max(width, height) places, which hold 0 after it. It tells the lines interpolated, and the smallest and the largest sample of the result.
+// 12·max(width, height) places, which hold 0 after it. It tells the lines interpolated, and the smallest and the largest sample of the result, which
+// with linear lie in the range of the picture's samples and the background.
 // It refuses, and writes nothing: 1 a side of 0 or over 1,024; 2 a picture or a result under width·height places, or work under its own; 3 a centre
 // outside the picture; 4 a shear beyond ±4,096; 5 an unknown kernel; 12 a background beyond ±32,767, judged before 6; 6 a sample beyond ±32,767,
 // with its row and column.

@@ -1,4 +1,4 @@
--- Chains of tests: what an accepted call has passed. Assumes nothing.
+-- Chains of tests: what an accepted call has passed, and that number 0 says that it is one. Assumes nothing.
 use Prim.Native.Nat.{ℕ}
 use mathlib.Core.Path.{_≡_, refl}
 use mathlib.Core.Bool.{Bool, true, false}
@@ -7,7 +7,7 @@ use Rattle.refusals.specs.declared.Found.{Found}
 use Rattle.refusals.specs.declared.Found.the-variants.{Nothing, At}
 use Rattle.refusals.specs.declared.Verdict.{Verdict}
 use Rattle.refusals.specs.declared.Verdict.the-variants.{Accepted, Refused}
-use Rattle.refusals.specs.Judging.{refusedIf, ofFound, andThen}
+use Rattle.refusals.specs.Judging.{refusedIf, ofFound, andThen, numberOf}
 
 -- an accepted call has passed the test, and the later ones
 pub refusedIf-accepted : (t : Bool) (number : ℕ) (later : Verdict) → refusedIf t number later ≡ Accepted → (t ≡ false) × (later ≡ Accepted)
@@ -22,3 +22,15 @@ ofFound-accepted (At row column) e = let z : _≡_ {A = ℕ} 0 1 = cc in absurd 
 pub andThen-accepted : (v later : Verdict) → andThen v later ≡ Accepted → (v ≡ Accepted) × (later ≡ Accepted)
 andThen-accepted Accepted later e = (refl, e)
 andThen-accepted (Refused number row column) later e = let z : _≡_ {A = ℕ} 0 1 = cc in absurd (omega arith)
+
+-- ---- no number is 0, so that 0 says that a call is accepted
+abbrev pub AcceptedByZero : Verdict → Type 0
+AcceptedByZero v = numberOf v ≡ 0 → v ≡ Accepted
+
+pub by-zero-if : (t : Bool) (number : ℕ) (later : Verdict) → (number ≡ 0 → ⊥) → AcceptedByZero later → AcceptedByZero (refusedIf t number later)
+by-zero-if true number later some z e = absurd (some e)
+by-zero-if false number later some z e = z e
+
+pub by-zero-found : (f : Found) → AcceptedByZero (ofFound f)
+by-zero-found Nothing e = refl
+by-zero-found (At row column) e = absurd (omega arith)

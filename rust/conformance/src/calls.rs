@@ -23,6 +23,14 @@ pub fn untouched_from(first: usize, buffer: &[i32]) -> bool {
     (first..buffer.len()).all(|k| buffer[k] == untouched(k))
 }
 
+/// A border with a number added to its background.
+fn raised(border: Border, added: i32) -> Border {
+    match border {
+        Border::Wrapped => Border::Wrapped,
+        Border::Background(value) => Border::Background(value + added),
+    }
+}
+
 /// What a call answered, and what it left in the buffers.
 #[derive(Clone, Debug, PartialEq, Eq)]
 pub struct Outcome {
@@ -95,6 +103,12 @@ impl PictureCall {
         self.held(Outcome { answer, extremes, result, work })
     }
 
+    /// The same call with a number added to every sample and to the background.
+    pub fn raised(&self, added: i32) -> PictureCall {
+        let setting = self.setting.with_border(raised(self.setting.border, added));
+        PictureCall { setting, picture: self.picture.iter().map(|v| v + added).collect(), ..self.clone() }
+    }
+
     /// Holds an outcome to the documents, by the size of the call.
     fn held(&self, outcome: Outcome) -> Outcome {
         let (width, height) = self.size;
@@ -158,6 +172,12 @@ impl LineCall {
     /// The same call with another border.
     pub fn with_border(self, border: Border) -> LineCall {
         LineCall { border, ..self }
+    }
+
+    /// The same call with a number added to every sample and to the background.
+    pub fn raised(&self, added: i32) -> LineCall {
+        let line = self.line.iter().map(|v| v + added).collect();
+        LineCall { line, border: raised(self.border, added), ..self.clone() }
     }
 
     /// Makes the call.

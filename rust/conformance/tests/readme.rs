@@ -115,6 +115,24 @@ fn the_overshoot_of_each_kernel() {
     }
 }
 
+/// README's lines, each moved toward lower places by every kernel.
+#[test]
+fn a_number_added_to_all_samples() {
+    let rows = table("README.md", "Moved by half a sample");
+    assert_eq!(rows.len(), 4);
+    let samples = |cell: &str| -> Vec<i32> {
+        cell.split(' ').map(|sample| sample.parse().expect("a sample")).collect()
+    };
+    for row in &rows {
+        let line = samples(&row[0]);
+        for (kernel, cell) in [Kernel::Linear, Kernel::Keys, Kernel::Spline].into_iter().zip(&row[1..]) {
+            let (mut result, mut work) = (vec![0; line.len()], vec![0; 6 * line.len()]);
+            move_line(kernel, -2_048, Border::Wrapped, &line, &mut result, &mut work).expect("a move");
+            assert_eq!(result, samples(cell), "{kernel:?} of {line:?}");
+        }
+    }
+}
+
 /// README's numbers of a commit after which something has changed are those that it is refused under.
 #[test]
 fn what_happens_between_asking_and_committing() {

@@ -18,6 +18,7 @@ for_both_implementations!(
     tickets,
     asked_and_committed,
     extremes,
+    numbers_added,
     exact_pictures_in_both_borders,
     steps,
     settings,
@@ -274,6 +275,19 @@ fn asked_and_committed(implementation: &dyn Implementation) {
         let figure = |key: &str| number::<usize>(value(&answer, key));
         let expected = Answer::of(figure("number") as u32, figure("row"), figure("column"), 0);
         assert_eq!(call.ask(implementation), (expected, ticket(&answer)), "{input:?}");
+    }
+}
+
+fn numbers_added(implementation: &dyn Implementation) {
+    for (input, answer) in vectors("added.txt", 60) {
+        let picture = list(value(&input, "picture"));
+        let call = PictureCall::fitting(named_size(&input), named_setting(&input), picture);
+        let raised = call.raised(number(value(&input, "K")));
+        for (call, samples) in [(call, "result"), (raised, "lifted")] {
+            let outcome = call.run(implementation);
+            assert_eq!(outcome.answer.number, 0, "{input:?}");
+            assert_eq!(outcome.result, list(value(&answer, samples)), "{samples} of {input:?}");
+        }
     }
 }
 

@@ -67,6 +67,12 @@ pub fn line_work_places(length: usize) -> usize {
 /// and `work` hold before does not matter; afterwards those places of `work` are 0. Longer buffers are
 /// fine: their later places stay as they are.
 ///
+/// With [`Kernel::Linear`] every sample of the result lies between the smallest and the largest of the
+/// picture's samples, the background being one of them where it is set. With linear and [`Kernel::Keys`], of
+/// two accepted calls that are alike but that the second has one number added to every sample and to the
+/// background, the second's samples, smallest and largest are higher by that number, and its count is the
+/// same.
+///
 /// Refused with [`Refusal::Size`], [`Refusal::Buffer`], [`Refusal::Centre`], [`Refusal::Shear`],
 /// [`Refusal::Background`] or [`Refusal::Sample`], the first of them that applies; then no buffer is
 /// touched.
@@ -128,7 +134,11 @@ pub fn straightened(
 ///
 /// `result` takes as many places as the line and `work` takes [`line_work_places`]. The line has 1 to
 /// 1,024 samples within plus or minus 294,912; d lies within plus or minus 4,194,304, and a background
-/// within plus or minus 32,767. Under Keys and the spline the result may lie beyond the line's own range.
+/// within plus or minus 32,767. With Keys and the spline the result may lie beyond the line's own range;
+/// with linear it lies between the smallest and the largest of the line's samples, the background being one
+/// of them where it is set. With linear and Keys, of two accepted calls that are alike but that the second
+/// has one number added to every sample and to the background, the second's samples, smallest and largest are
+/// higher by that number.
 ///
 /// Refused with [`Refusal::Size`], [`Refusal::Buffer`], [`Refusal::Shear`], [`Refusal::Background`] or
 /// [`Refusal::Sample`].

@@ -7,7 +7,7 @@ use straightener_sys as sys;
 /// How samples between places are weighed.
 #[derive(Clone, Copy, Debug, Default, PartialEq, Eq, Hash)]
 pub enum Kernel {
-    /// The two nearest samples by distance: the fastest, and the softest picture.
+    /// The two nearest samples by distance: the fastest, the softest picture, and no overshoot.
     #[default]
     Linear,
     /// Keys' cubic convolution with a = -1/2, over four samples.

@@ -9,7 +9,7 @@ use lib.ListN.{length}
 use mir.Syntax.{w32}
 use Rattle.arith.proofs.Machine.{read-back}
 use Rattle.lists.specs.Line.{line}
-use Rattle.lists.proofs.Ends.{smallest-is, largest-is, extreme-within}
+use Rattle.lists.proofs.Ends.{smallest-is, largest-is, extreme-has}
 use Rattle.readings.specs.Answers.{range}
 use Rattle.readings.proofs.Passed.{Passed, passed}
 use Rattle.readings.proofs.Calls.{summary-refused, summary-accepted}
@@ -27,14 +27,14 @@ low-size c =
     let a = c .before .before .before .before .args in
     let p = accepted (c .before) in
     let e = smallest-is (line (a .picture .now)) (a .height * a .width) (p .some) in
-    subst (λ v. natAbs v ≤ 2 * range) (sym (ap (λ x. x .smallest) (c .extremes-of .ensures))) (omega (arith, extreme-within _ range _ (a .picture .now) _ e (p .within)))
+    subst (λ v. natAbs v ≤ 2 * range) (sym (ap (λ x. x .smallest) (c .extremes-of .ensures))) (omega (arith, extreme-has _ (λ v. natAbs v ≤ range) (line (a .picture .now)) _ _ e (p .within)))
 
 high-size : (c : tie.After-extremes-of) → natAbs (c .extremes-of .result .largest) ≤ 2 * range
 high-size c =
     let a = c .before .before .before .before .args in
     let p = accepted (c .before) in
     let e = largest-is (line (a .picture .now)) (a .height * a .width) (p .some) in
-    subst (λ v. natAbs v ≤ 2 * range) (sym (ap (λ x. x .largest) (c .extremes-of .ensures))) (omega (arith, extreme-within _ range _ (a .picture .now) _ e (p .within)))
+    subst (λ v. natAbs v ≤ 2 * range) (sym (ap (λ x. x .largest) (c .extremes-of .ensures))) (omega (arith, extreme-has _ (λ v. natAbs v ≤ range) (line (a .picture .now)) _ _ e (p .within)))
 
 judge-requires : tie.Need-judge-requires
 judge-requires c κs = search needs

@@ -1,0 +1,76 @@
+-- A number added to every sample and to the background of a line is added to every sample of the line moved under linear or Keys. Assumes nothing.
+use mathlib.Core.Path.{_≡_, refl, sym, ap, _∙_}
+use mathlib.Core.Bool.{cond}
+use mathlib.Core.List.{List, _++_}
+use Prim.Native.Nat.{ℕ, _<_}
+use native.Mathlib.Omega.{arith}
+use lib.Dec.{ltb}
+use lib.IntN.{ℤ, pos, _+ℤ_}
+use lib.ListN.{length, take, drop}
+use lib.Seq.{getD-take}
+use Rattle.lists.specs.Line.{line}
+use Rattle.lists.specs.Ends.{smallest, largest}
+use Rattle.lists.proofs.Ends.{smallest-plus, largest-plus}
+use Rattle.refusals.specs.declared.Verdict.the-variants.{Accepted}
+use Rattle.refusals.specs.Judging.{whenAccepted}
+use Rattle.settings.specs.declared.Border.{Border}
+use Rattle.kernels.specs.Kernel.{kernelOf}
+use Rattle.moves.specs.Border.{moveIn}
+use Rattle.moves.specs.Range.{Raised}
+use Rattle.moves.proofs.Range.{linear-keys-add, fraction-raised, kernel-not-spline}
+use Rattle.lines.specs.declared.LineOutcome.{LineOutcome}
+use Rattle.lines.specs.Answer.{judged, Movable, isInterpolated, outcomeOf, numberOf, countOf, smallestOf, largestOf, LineMoved}
+use Rattle.lines.specs.Raised.{BothMoved, LineRaised}
+use Rattle.lines.proofs.Answer.{accepted, zero-accepted, taken, moved-at}
+
+-- the figures of an accepted call: the extremes of the first n samples that it left, and whether the line is interpolated
+abbrev Told : ℕ → ℤ → Border → List ℤ → LineOutcome → Type 0
+Told n d β result′ r = (smallestOf r ≡ smallest (line result′) n) × (largestOf r ≡ largest (line result′) n) × (countOf r ≡ cond (isInterpolated β n d) 1 0)
+
+-- ---- a call that answers number 0: it was accepted, and its result holds the moved line
+module _ {n kernel : ℕ} {d : ℤ} {β : Border} {line₁ result work result′ work′ : List ℤ} {r : LineOutcome}
+    (a : LineMoved n kernel d β line₁ result work result′ work′ r) (zero : numberOf r ≡ 0) where
+  was-accepted : judged n kernel d β line₁ (length result) (length work) ≡ Accepted
+  was-accepted = zero-accepted n kernel d β line₁ (length result) (length work) (sym (a .number) ∙ zero)
+
+  was-movable : Movable n kernel d β line₁ (length result) (length work)
+  was-movable = accepted n kernel d β line₁ (length result) (length work) was-accepted
+
+  was-moved : (k : ℕ) → k < n → line result′ k ≡ line (moveIn β (kernelOf kernel) d (take n line₁)) k
+  was-moved k l =
+      ap (λ (t : List ℤ). line t k) (a .result ∙ ap (λ v. whenAccepted v (moveIn β (kernelOf kernel) d (take n line₁) ++ drop n result) result) was-accepted)
+      ∙ moved-at was-movable (drop n result) k l
+
+  was-told : Told n d β result′ r
+  unfolding outcomeOf
+  was-told = rw (a .outcome, was-accepted) (refl, refl, refl)
+
+-- ---- two of them
+module _ {c : ℤ} {n kernel : ℕ} {d : ℤ} {β : Border} {line₁ result work result′ work′ : List ℤ} {r : LineOutcome} {line₂ result₂ work₂ result₂′ work₂′ : List ℤ} {r₂ : LineOutcome}
+    (both : BothMoved c n kernel d β line₁ result work result′ work′ r line₂ result₂ work₂ result₂′ work₂′ r₂) where
+  m : Movable n kernel d β line₁ (length result) (length work)
+  m = was-movable (both .first) (both .first-accepted)
+
+  -- the samples that are moved
+  handed : Raised c (length (take n line₁)) (take n line₁) (take n line₂)
+  handed k l =
+      let inside : k < n = omega (arith, taken m) in
+      getD-take n line₂ k (pos 0) inside ∙ both .added k inside ∙ ap (λ v. v +ℤ c) (sym (getD-take n line₁ k (pos 0) inside))
+
+  left : Raised c n result′ result₂′
+  left k l =
+      was-moved (both .second) (both .second-accepted) k l
+      ∙ linear-keys-add (kernelOf kernel) (kernel-not-spline kernel (omega (arith, both .not-spline))) c β d (take n line₁) (take n line₂) (taken (was-movable (both .second) (both .second-accepted)) ∙ sym (taken m)) handed k (omega (arith, taken m))
+      ∙ ap (λ v. v +ℤ c) (sym (was-moved (both .first) (both .first-accepted) k l))
+
+  pub line-raised : LineRaised c n result′ r result₂′ r₂
+  unfolding isInterpolated
+  line-raised =
+      let told = was-told (both .first) (both .first-accepted) in
+      let told₂ = was-told (both .second) (both .second-accepted) in
+      record {
+        samples = left;
+        smallest = told₂ .0 ∙ smallest-plus c (line result′) (line result₂′) n (m .some) left ∙ ap (λ v. v +ℤ c) (sym (told .0));
+        largest = told₂ .1 ∙ largest-plus c (line result′) (line result₂′) n (m .some) left ∙ ap (λ v. v +ℤ c) (sym (told .1));
+        count = told₂ .2 ∙ ap (λ (f : ℕ). cond (ltb 0 f) 1 0) (fraction-raised c β n d) ∙ sym (told .2);
+      }

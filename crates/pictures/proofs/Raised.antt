@@ -1,0 +1,73 @@
+-- A number added to every sample and to the background of a picture is added to every sample of the picture straightened under linear or Keys.
+-- Assumes nothing.
+use Prim.Native.Nat.{ℕ, _*_, _≤_, _<_}
+use mathlib.Core.Path.{_≡_, refl, sym, ap, _∙_}
+use mathlib.Core.Bool.{Bool}
+use mathlib.Core.List.{List, _++_}
+use native.Mathlib.Nat.{mul-pos}
+use native.Mathlib.Omega.{arith}
+use lib.IntN.{ℤ, _+ℤ_}
+use lib.ListN.{length, take, drop}
+use Rattle.lists.specs.Line.{line}
+use Rattle.lists.specs.Ends.{smallest, largest}
+use Rattle.lists.proofs.Ends.{smallest-plus, largest-plus}
+use Rattle.refusals.specs.declared.Verdict.the-variants.{Accepted}
+use Rattle.refusals.specs.Judging.{whenAccepted}
+use Rattle.settings.specs.declared.Setting.{Setting}
+use Rattle.moves.specs.Range.{Raised}
+use Rattle.moves.proofs.Range.{kernel-not-spline}
+use Rattle.passes.specs.Picture.{straighten}
+use Rattle.passes.specs.Count.{count}
+use Rattle.passes.proofs.Range.{straighten-raised, count-raised}
+use Rattle.acceptance.specs.Judge.{judgedOn, Fit}
+use Rattle.acceptance.proofs.Accepted.{accepted-fit, zero-accepted}
+use Rattle.pictures.specs.declared.Outcome.{Outcome}
+use Rattle.pictures.specs.Answer.{numberOf, countOf, smallestOf, largestOf, kernelIn, rowMoves, columnMoves, AnswerOn}
+use Rattle.pictures.specs.Raised.{BothStraightened, PictureRaised}
+use Rattle.pictures.proofs.Call.{written-at}
+
+-- the figures of an accepted call: the extremes of the first W·H samples that it left, and the lines interpolated
+abbrev Told : ℕ → ℕ → Setting → List ℤ → Outcome → Type 0
+Told W H s result′ r =
+    (smallestOf r ≡ smallest (line result′) (W * H)) × (largestOf r ≡ largest (line result′) (W * H)) × (countOf r ≡ count (s .border) W H (rowMoves s) (columnMoves s))
+
+-- ---- a call that answers number 0: it was accepted, and its result holds the straightened picture
+module _ (other : Bool) {W H : ℕ} {s : Setting} {picture result work : List ℤ} {r : Outcome} {result′ work′ : List ℤ}
+    (a : AnswerOn other W H s picture result work r result′ work′) (zero : numberOf r ≡ 0) where
+  was-accepted : judgedOn other W H s picture (length result) (length work) ≡ Accepted
+  was-accepted = zero-accepted other W H s picture (length result) (length work) (sym (a .number) ∙ zero)
+
+  was-fit : Fit W H s picture (length result) (length work)
+  was-fit = accepted-fit other W H s picture (length result) (length work) was-accepted
+
+  was-straightened : (i : ℕ) → i < W * H → line result′ i ≡ line (straighten (s .border) (kernelIn s) W H (rowMoves s) (columnMoves s) picture) i
+  was-straightened =
+      written-at was-fit result result′
+      (a .written ∙ ap (λ v. whenAccepted v (straighten (s .border) (kernelIn s) W H (rowMoves s) (columnMoves s) (take (W * H) picture) ++ drop (W * H) result) result) was-accepted)
+
+  was-told : Told W H s result′ r
+  was-told = rw (a .outcome, was-accepted) (refl, refl, refl)
+
+-- ---- two of them
+module _ {other other₂ : Bool} {c : ℤ} {W H : ℕ} {s : Setting} {picture result work : List ℤ} {r : Outcome} {result′ work′ picture₂ result₂ work₂ : List ℤ} {r₂ : Outcome} {result₂′ work₂′ : List ℤ}
+    (both : BothStraightened other other₂ c W H s picture result work r result′ work′ picture₂ result₂ work₂ r₂ result₂′ work₂′) where
+  fit : Fit W H s picture (length result) (length work)
+  fit = was-fit other (both .first) (both .first-accepted)
+
+  left : Raised c (W * H) result′ result₂′
+  left i l =
+      was-straightened other₂ (both .second) (both .second-accepted) i l
+      ∙ straighten-raised (s .border) (kernelIn s) (kernel-not-spline (s .kernel) (omega (arith, both .not-spline))) (rowMoves s) (columnMoves s) (fit .width .0) (fit .height .0) c picture picture₂ (both .added) i l
+      ∙ ap (λ v. v +ℤ c) (sym (was-straightened other (both .first) (both .first-accepted) i l))
+
+  pub picture-raised : PictureRaised c W H r result′ r₂ result₂′
+  picture-raised =
+      let told = was-told other (both .first) (both .first-accepted) in
+      let told₂ = was-told other₂ (both .second) (both .second-accepted) in
+      let some : 1 ≤ W * H = mul-pos (fit .width .0) (fit .height .0) in
+      record {
+        samples = left;
+        smallest = told₂ .0 ∙ smallest-plus c (line result′) (line result₂′) (W * H) some left ∙ ap (λ v. v +ℤ c) (sym (told .0));
+        largest = told₂ .1 ∙ largest-plus c (line result′) (line result₂′) (W * H) some left ∙ ap (λ v. v +ℤ c) (sym (told .1));
+        count = told₂ .2 ∙ count-raised c (s .border) W H (rowMoves s) (columnMoves s) ∙ sym (told .2);
+      }
