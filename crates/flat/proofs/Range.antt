@@ -66,6 +66,16 @@ pub commit-range-told : (t : FlatTicket) (W H : ℕ) (picture result work : List
     → ToldInRange (settingOf (t .setting) .border) (W * H) picture result′ r
 commit-range-told t W H picture result work = picture-range-told (otherSize W H (ticketOf t)) W H (t .setting) picture result work
 
+-- and so are two, whatever sizes and counts their tickets tell
+pub commit-raised-told : (c : ℤ) (s : FlatSetting) (w h n w₂ h₂ n₂ : ℕ) (W H : ℕ) (picture result work picture₂ result₂ work₂ : List ℤ)
+    {result′ work′ result₂′ work₂′ : List ℤ} {r r₂ : Answer}
+    → Exported ofOutcome (λ o. Committed (ticketOf (record { width = w; height = h; setting = s; count = n })) W H picture result work o result′ work′) r → r .number ≡ 0
+    → Exported ofOutcome (λ o. Committed (ticketOf (record { width = w₂; height = h₂; setting = raisedAs c s; count = n₂ })) W H picture₂ result₂ work₂ o result₂′ work₂′) r₂
+    → r₂ .number ≡ 0 → s .kernel ≤ 1 → Raised c (W * H) picture picture₂ → ToldRaised c (W * H) result′ r result₂′ r₂
+commit-raised-told c s w h n w₂ h₂ n₂ W H picture result work picture₂ result₂ work₂ call accepted call₂ accepted₂ =
+    picture-raised-told (otherSize W H (ticketOf (record { width = w; height = h; setting = s; count = n }))) W H s picture result work call accepted
+    (otherSize W H (ticketOf (record { width = w₂; height = h₂; setting = raisedAs c s; count = n₂ }))) c picture₂ result₂ work₂ call₂ accepted₂
+
 -- ---- one line
 module _ (n kernel : ℕ) (d : ℤ) (border : ℕ) (background : ℤ) (samples result work : List ℤ) {result′ work′ : List ℤ} {r : Answer}
     (call : Exported ofLine (λ o. LineMoved n kernel d (borderOf border background) samples result work result′ work′ o) r) (accepted : r .number ≡ 0) where
