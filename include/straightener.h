@@ -43,10 +43,10 @@
 #include <stdint.h>
 
 /* The version of this header, as text and as its parts. */
-#define STRAIGHTENER_VERSION "0.5.1"
+#define STRAIGHTENER_VERSION "0.5.2"
 #define STRAIGHTENER_VERSION_MAJOR 0
 #define STRAIGHTENER_VERSION_MINOR 5
-#define STRAIGHTENER_VERSION_PATCH 1
+#define STRAIGHTENER_VERSION_PATCH 2
 
 #ifdef __cplusplus
 extern "C" {
@@ -254,8 +254,8 @@ typedef struct {
  * With kernel 0 no sample of the result lies below the smallest or above the largest of the picture's
  * samples, the background being one of them where it is set: linear never overshoots. With kernels 0 and
  * 1, of two accepted calls that are alike but that the second has one number added to every sample and to
- * the background, the second's samples, smallest and largest are higher by that number, and its count is
- * the same.
+ * the background, the second's samples, smallest and largest are higher by that number; with kernel 2 its
+ * samples are so to within 13 units. Its count is the same.
  */
 straightener_answer straightener_straighten(size_t width, size_t height, straightener_setting setting,
                                             const int32_t *picture, size_t picture_len,
@@ -316,8 +316,8 @@ size_t straightener_work_places(size_t width, size_t height);
  * smallest and the largest sample are those of the result's n places: where they lie beyond every sample
  * of the line, and beyond the background, the kernel has overshot, which linear never does. With kernels
  * 0 and 1, of two accepted calls that are alike but that the second has one number added to every sample
- * and to the background, the second's samples, smallest and largest are higher by that number, and its
- * count is the same.
+ * and to the background, the second's samples, smallest and largest are higher by that number; with kernel
+ * 2 its samples are so to within 1 unit. Its count is the same.
  */
 straightener_answer straightener_move_line(size_t n, uint32_t kernel, int32_t d,
                                            uint32_t border, int32_t background,

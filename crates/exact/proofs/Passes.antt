@@ -7,19 +7,18 @@ use native.Mathlib.Omega.{arith}
 use lib.IntN.{ℤ, pos, _+ℤ_, _-ℤ_, _*ℤ_}
 use lib.Signed.{_≤ℤ_, _<ℤ_, leZ-yes, ltZ-yes}
 use Rattle.arith.proofs.Bridge.{bridge, all3}
-use Rattle.arith.proofs.Laws.{pos-≤ℤ}
-use Rattle.arith.proofs.Within.{Within, widen}
+use Rattle.arith.proofs.Within.{Within}
 use Rattle.settings.specs.declared.Border.{Border}
 use Rattle.kernels.specs.Kernel.{Kernel, Linear, Keys, Spline}
 use Rattle.arith.specs.Move.{fraction}
 use Rattle.moves.specs.Border.{grey}
 use Rattle.moves.proofs.Reach.{reach}
-use Rattle.moves.proofs.Border.{bordered-reach, reach-more}
 use Rattle.exact.specs.ExactLine.{ExactMove}
 use Rattle.exact.proofs.Step.{itself, base, growth}
 use Rattle.exact.proofs.Border.{over-in, numbers-in, exact-move, over-in-positive, exact-move-only, move-near, whole-move, Agrees, grey-move, bordered-grey, shift-move}
 use Rattle.exact.specs.Limits.{limit}
 use Rattle.passes.specs.Picture.{Picture, turned, Places, rows-moved, after-one, after-two, straightened}
+use Rattle.passes.proofs.Reach.{Ranged, turn-ranged, row-small, grey-small, reach-fits, outer₁, outer₂, range₁, range₂}
 use Rattle.exact.specs.ExactPicture.{ExactRows, ExactPicture}
 
 -- ---- existence
@@ -61,18 +60,12 @@ module _ (β : Border) (κ : Kernel) (W H : ℕ) (rows columns : ℕ → ℤ) wh
       two : ExactRows β κ H W columns (turned (E-one X)) (over-in β κ W (pos 1)) (turned (E-two X)) (over-in β κ H (over-in β κ W (pos 1)))
       two = exact-rows β κ H W columns (turned (E-one X)) (over-in β κ W (pos 1)) hH (one .positive)
 
--- ---- what is said of all places of a picture: a range, nearness to fractions, equality of fractions. Each may be turned
-record Ranged (W H M : ℕ) (X : Picture) : Type 0 where
-  place : Places W H (λ y x. Within (pos M) (X y x))
-
+-- ---- what is said of all places of a picture: nearness to fractions, equality of fractions. Each may be turned
 record Close (W H : ℕ) (m e : ℤ) (X S : Picture) (q : ℤ) : Type 0 where
   place : Places W H (λ y x. Within (e *ℤ q) (m *ℤ (X y x *ℤ q -ℤ S y x)))
 
 pub record Equal (W H : ℕ) (S : Picture) (q : ℤ) (S′ : Picture) (q′ : ℤ) : Type 0 where
   pub place : Places W H (λ y x. S y x *ℤ q′ ≡ S′ y x *ℤ q)
-
-turn-ranged : {W H M : ℕ} {X : Picture} → Ranged W H M X → Ranged H W M (turned X)
-turn-ranged r = record { place = λ x y hx hy. r .place y x hy hx }
 
 turn-close : {W H : ℕ} {m e q : ℤ} {X S : Picture} → Close W H m e X S q → Close H W m e (turned X) (turned S) q
 turn-close c = record { place = λ x y hx hy. c .place y x hy hx }
@@ -81,18 +74,6 @@ turn-equal : {W H : ℕ} {q q′ : ℤ} {S S′ : Picture} → Equal W H S q S�
 turn-equal e = record { place = λ x y hx hy. e .place y x hy hx }
 
 -- ---- one pass over rows, of samples in a line's range
-row-small : {W H M : ℕ} {X : Picture} → M ≤ 294912 → Ranged W H M X → (y : ℕ) → y < H → (k : ℕ) → k < W → Within (pos 294912) (X y k)
-row-small {M = M} {X} fits range y hy k l = widen (pos M) (pos 294912) (X y k) (range .place y k hy l) (pos-≤ℤ fits)
-
--- and so is the background
-grey-small : {M : ℕ} (β : Border) → M ≤ 294912 → Within (pos M) (grey β) → Within (pos 294912) (grey β)
-grey-small {M} β fits outer = widen (pos M) (pos 294912) (grey β) outer (pos-≤ℤ fits)
-
-rows-reach : (β : Border) (κ : Kernel) {W H : ℕ} (move : ℕ → ℤ) {X : Picture} (M : ℕ) → 0 < W → M ≤ 294912 → Within (pos M) (grey β) → Ranged W H M X
-    → Ranged W H (reach κ M) (rows-moved β κ W move X)
-unfolding rows-moved
-rows-reach β κ move M h fits outer range = record { place = λ y x hy hx. bordered-reach β M h fits outer (λ k l. range .place y k hy l) κ (move y) x }
-
 rows-grey : (β : Border) (κ : Kernel) {W H : ℕ} (move : ℕ → ℤ) {X : Picture} (M : ℕ) (g : ℤ) → 0 < W → M ≤ 294912 → Within (pos M) (grey β) → Ranged W H M X → Agrees β g
     → Places W H (λ y x. X y x ≡ g) → Places W H (λ y x. rows-moved β κ W move X y x ≡ g)
 unfolding rows-moved
@@ -140,44 +121,6 @@ sharp-is : (κ : Kernel)
 sharp-is Linear = refl
 sharp-is Keys = refl
 sharp-is Spline = refl
-
--- samples within ±32767 stay within ±294912 for two passes, and within ±1048576 for three
-reach-fits : (κ : Kernel) → (reach κ 32767 ≤ 294912) × (reach κ (reach κ 32767) ≤ 294912) × (reach κ (reach κ (reach κ 32767)) ≤ 1048576)
-reach-fits Linear = omega arith
-reach-fits Keys = omega arith
-reach-fits Spline = omega arith
-
--- ---- ranges
--- and so does the background
-module _ (β : Border) (κ : Kernel) (outer : Within (pos 32767) (grey β)) where
-  outer₁ : Within (pos (reach κ 32767)) (grey β)
-  outer₁ = widen (pos 32767) (pos (reach κ 32767)) (grey β) outer (pos-≤ℤ (reach-more κ 32767))
-
-  outer₂ : Within (pos (reach κ (reach κ 32767))) (grey β)
-  outer₂ = widen (pos (reach κ 32767)) (pos (reach κ (reach κ 32767))) (grey β) outer₁ (pos-≤ℤ (reach-more κ (reach κ 32767)))
-
-module _ (β : Border) (κ : Kernel) {W H : ℕ} (rows columns : ℕ → ℤ) (hW : 0 < W) (hH : 0 < H) (outer : Within (pos 32767) (grey β))
-    {X : Picture} (range : Places W H (λ y x. Within (pos 32767) (X y x))) where
-  range₁ : Ranged W H (reach κ 32767) (after-one β κ W rows X)
-  range₁ = rows-reach β κ rows {X = X} 32767 hW (omega arith) outer (record { place = range })
-
-  range₂ : Ranged W H (reach κ (reach κ 32767)) (after-two β κ W H rows columns X)
-  range₂ = turn-ranged (rows-reach β κ columns (reach κ 32767) hH (reach-fits κ .0) (outer₁ β κ outer) (turn-ranged range₁))
-
-  -- the inputs of passes 2 and 3 are within a line's range
-  pub after-one-range : Places W H (λ y x. Within (pos 294912) (after-one β κ W rows X y x))
-  after-one-range y x hy hx =
-      widen (pos (reach κ 32767)) (pos 294912) (after-one β κ W rows X y x) (range₁ .place y x hy hx) (pos-≤ℤ (reach-fits κ .0))
-
-  pub after-two-range : Places W H (λ y x. Within (pos 294912) (after-two β κ W H rows columns X y x))
-  after-two-range y x hy hx =
-      widen (pos (reach κ (reach κ 32767))) (pos 294912) (after-two β κ W H rows columns X y x) (range₂ .place y x hy hx) (pos-≤ℤ (reach-fits κ .1))
-
-  -- and the result is within the range for readings
-  pub straightened-reach : Places W H (λ y x. Within (pos 1048576) (straightened β κ W H rows columns X y x))
-  straightened-reach y x hy hx =
-      widen (pos (reach κ (reach κ (reach κ 32767)))) (pos 1048576) (straightened β κ W H rows columns X y x) (rows-reach β κ rows (reach κ
-      (reach κ 32767)) hW (reach-fits κ .1) (outer₂ β κ outer) range₂ .place y x hy hx) (pos-≤ℤ (reach-fits κ .2))
 
 module _ {β : Border} {κ : Kernel} {W H : ℕ} {rows columns : ℕ → ℤ} (hW : 0 < W) (hH : 0 < H) where
   -- the fractions are determined

@@ -9,6 +9,7 @@ use lib.Signed.{_<ℤ_}
 use Rattle.arith.proofs.Bridge.{bridge, all1, all2}
 use Rattle.lists.specs.Line.{Line, line}
 use Rattle.passes.proofs.Places.{inside, length-pictured, pictured-at, picture-pictured, picture-at, at-index}
+use Rattle.passes.proofs.Reach.{straightened-reach}
 use Rattle.arith.proofs.Within.{Within, within-size, size-within}
 use Rattle.settings.specs.declared.Border.{Border}
 use Rattle.settings.specs.declared.Border.the-variants.{Wrapped, Background}
@@ -19,7 +20,7 @@ use Rattle.exact.specs.ExactLine.{ExactLine, OnBackground, ExactMove}
 use Rattle.exact.proofs.Border.{Agrees}
 use Rattle.passes.specs.Picture.{straighten, Picture, picture, pictured, Places, straightened}
 use Rattle.exact.specs.ExactPicture.{ExactList, ExactPicture}
-use Rattle.exact.proofs.Passes.{exact-numbers, exact-denominator, exact-picture, exact-picture-only, Equal, straightened-reach, straightened-near, exact-whole, exact-grey, sharp, straightened-sharp}
+use Rattle.exact.proofs.Passes.{exact-numbers, exact-denominator, exact-picture, exact-picture-only, Equal, straightened-near, exact-whole, exact-grey, sharp, straightened-sharp}
 use Rattle.exact.specs.Limits.{limit}
 
 -- an exact line may be written otherwise past its N places

@@ -1,6 +1,6 @@
--- What C and Rust are told by structs of numbers: linear keeps the range of the samples and the background, and under linear and Keys a number that is
--- added to all of them is added to every sample of the result (Q-12). Assumes nothing.
-use Prim.Native.Nat.{ℕ, zero, suc, _*_, _≤_}
+-- What C and Rust are told by structs of numbers: linear keeps the range of the samples and the background, and a number that is added to all of them is added
+-- to every sample of the result, under the spline to within 13 units, or 1 of a line (Q-12). Assumes nothing.
+use Prim.Native.Nat.{ℕ, zero, suc, _*_}
 use mathlib.Core.Path.{_≡_, refl, sym, ap, _∙_, subst}
 use mathlib.Core.Bool.{Bool}
 use mathlib.Core.List.{List}
@@ -48,17 +48,16 @@ module _ (other : Bool) (W H : ℕ) (s : FlatSetting) (picture result work : Lis
 
   module _ (other₂ : Bool) (c : ℤ) (picture₂ result₂ work₂ : List ℤ) {result₂′ work₂′ : List ℤ} {r₂ : Answer}
       (call₂ : Exported ofOutcome (λ o. AnswerOn other₂ W H (settingOf (raisedAs c s)) picture₂ result₂ work₂ o result₂′ work₂′) r₂) (accepted₂ : r₂ .number ≡ 0) where
-    pub picture-raised-told : s .kernel ≤ 1 → Raised c (W * H) picture picture₂ → ToldRaised c (W * H) result′ r result₂′ r₂
-    picture-raised-told not-spline added =
+    pub picture-raised-told : Raised c (W * H) picture picture₂ → ToldRaised (s .kernel) 13 c (W * H) result′ r result₂′ r₂
+    picture-raised-told added =
         let two = picture-raised (record {
           first = call .promised;
           second = subst (λ (u : Setting). AnswerOn other₂ W H u picture₂ result₂ work₂ (call₂ .outcome) result₂′ work₂′) (setting-raised c s) (call₂ .promised);
           first-accepted = zero-laid call accepted;
           second-accepted = zero-laid call₂ accepted₂;
-          not-spline = not-spline;
           added = added;
         }) in
-        rw (call .answer, call₂ .answer) (record { each = two .samples; smallest = two .smallest; largest = two .largest; count = two .count })
+        rw (call .answer, call₂ .answer) (record { each = two .samples; smallest = two .smallest; largest = two .largest; nearly = two .nearly; count = two .count })
 
 -- a commit is such a call
 pub commit-range-told : (t : FlatTicket) (W H : ℕ) (picture result work : List ℤ) {result′ work′ : List ℤ} {r : Answer}
@@ -71,7 +70,7 @@ pub commit-raised-told : (c : ℤ) (s : FlatSetting) (w h n w₂ h₂ n₂ : ℕ
     {result′ work′ result₂′ work₂′ : List ℤ} {r r₂ : Answer}
     → Exported ofOutcome (λ o. Committed (ticketOf (record { width = w; height = h; setting = s; count = n })) W H picture result work o result′ work′) r → r .number ≡ 0
     → Exported ofOutcome (λ o. Committed (ticketOf (record { width = w₂; height = h₂; setting = raisedAs c s; count = n₂ })) W H picture₂ result₂ work₂ o result₂′ work₂′) r₂
-    → r₂ .number ≡ 0 → s .kernel ≤ 1 → Raised c (W * H) picture picture₂ → ToldRaised c (W * H) result′ r result₂′ r₂
+    → r₂ .number ≡ 0 → Raised c (W * H) picture picture₂ → ToldRaised (s .kernel) 13 c (W * H) result′ r result₂′ r₂
 commit-raised-told c s w h n w₂ h₂ n₂ W H picture result work picture₂ result₂ work₂ call accepted call₂ accepted₂ =
     picture-raised-told (otherSize W H (ticketOf (record { width = w; height = h; setting = s; count = n }))) W H s picture result work call accepted
     (otherSize W H (ticketOf (record { width = w₂; height = h₂; setting = raisedAs c s; count = n₂ }))) c picture₂ result₂ work₂ call₂ accepted₂
@@ -88,14 +87,13 @@ module _ (n kernel : ℕ) (d : ℤ) (border : ℕ) (background : ℤ) (samples r
 
   module _ (c : ℤ) (samples₂ result₂ work₂ : List ℤ) {result₂′ work₂′ : List ℤ} {r₂ : Answer}
       (call₂ : Exported ofLine (λ o. LineMoved n kernel d (borderOf border (background +ℤ c)) samples₂ result₂ work₂ result₂′ work₂′ o) r₂) (accepted₂ : r₂ .number ≡ 0) where
-    pub line-raised-told : kernel ≤ 1 → Raised c n samples samples₂ → ToldRaised c n result′ r result₂′ r₂
-    line-raised-told not-spline added =
+    pub line-raised-told : Raised c n samples samples₂ → ToldRaised kernel 1 c n result′ r result₂′ r₂
+    line-raised-told added =
         let two = line-raised (record {
           first = call .promised;
           second = subst (λ (β : Border). LineMoved n kernel d β samples₂ result₂ work₂ result₂′ work₂′ (call₂ .outcome)) (border-raised c border background) (call₂ .promised);
           first-accepted = zero-laid call accepted;
           second-accepted = zero-laid call₂ accepted₂;
-          not-spline = not-spline;
           added = added;
         }) in
-        rw (call .answer, call₂ .answer) (record { each = two .samples; smallest = two .smallest; largest = two .largest; count = two .count })
+        rw (call .answer, call₂ .answer) (record { each = two .samples; smallest = two .smallest; largest = two .largest; nearly = two .nearly; count = two .count })

@@ -146,9 +146,9 @@ fn move_cleared(
 
 // The first n samples of `line` moved by d/4,096 samples under a kernel and a border, into the first n places of `result`; the first 6n places
 // of `work` are used, and hold 0 afterwards. Tells whether the line was interpolated, and the smallest and the largest of those n places of the
-// result, which with linear lie in the range of the n samples and the background. Refuses, and then writes nothing: 1 a length n of 0 or over 1,024; 2 a line or a result under n
-// places or a work under 6n; 4 a d beyond ±4,194,304; 5 a kernel over 2; 12 a background beyond ±32,767; 6 a sample beyond ±294,912, the first by
-// its column, in row 0.
+// result, which with linear lie in the range of the n samples and the background. Refuses, and then writes nothing: 1 a length n of 0 or over
+// 1,024; 2 a line or a result under n places or a work under 6n; 4 a d beyond ±4,194,304; 5 a kernel over 2; 12 a background beyond ±32,767; 6 a
+// sample beyond ±294,912, the first by its column, in row 0.
 pub fn move_line(
     n: usize,
     kernel: u32,

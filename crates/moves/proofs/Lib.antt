@@ -8,6 +8,7 @@
 --     Border     a line moved under a border
 --     Kept       a part of a row weighed as a line of its own
 --     Range      linear keeps the range of its samples and the background; linear and Keys add what is added to all of them
+--     Nearly     the spline adds it to within 1 unit
 --     Examples   lines worked out by the checker: the others do not
 pub mod Rules
 pub mod Mixed
@@ -18,4 +19,5 @@ pub mod Whole
 pub mod Border
 pub mod Kept
 pub mod Range
+pub mod Nearly
 pub mod Examples

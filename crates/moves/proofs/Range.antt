@@ -139,6 +139,9 @@ fraction-raised c (Background b) N d = refl
 pub kernel-linear : (kernel : ℕ) → kernel ≡ 0 → kernelOf kernel ≡ Linear
 kernel-linear kernel e = ap kernelOf e
 
+pub kernel-spline : (kernel : ℕ) → kernel ≡ 2 → kernelOf kernel ≡ Spline
+kernel-spline kernel e = ap kernelOf e
+
 pub kernel-not-spline : (kernel : ℕ) → kernel ≤ 1 → kernelOf kernel ≡ Spline → ⊥
 kernel-not-spline zero h e = let z : _≡_ {A = ℕ} 0 1 = cc in omega arith
 kernel-not-spline (suc zero) h e = let z : _≡_ {A = ℕ} 0 1 = cc in omega arith

@@ -1,8 +1,8 @@
 -- What document 02 says of the linear kernel's range, and of one number added to all samples (Q-12). Assumes nothing.
 use mathlib.Core.Path.{_≡_}
 use mathlib.Core.List.{List}
-use Prim.Native.Nat.{ℕ, _<_}
-use lib.IntN.{ℤ, _+ℤ_}
+use Prim.Native.Nat.{ℕ, _≤_, _<_}
+use lib.IntN.{ℤ, natAbs, _+ℤ_, _-ℤ_}
 use lib.ListN.{length}
 use lib.Signed.{_≤ℤ_}
 use Rattle.arith.specs.Whole.{minℤ, maxℤ}
@@ -36,6 +36,10 @@ raised c (Background b) = Background (b +ℤ c)
 
 abbrev pub Raised : ℤ → ℕ → List ℤ → List ℤ → Type 0
 Raised c n s t = (k : ℕ) → k < n → line t k ≡ line s k +ℤ c
+
+-- the same to within m units
+abbrev pub RaisedWithin : ℕ → ℤ → ℕ → List ℤ → List ℤ → Type 0
+RaisedWithin m c n s t = (k : ℕ) → k < n → natAbs (line t k -ℤ (line s k +ℤ c)) ≤ m
 
 -- ---- what a kernel may keep, of every line under either border
 -- no moved sample leaves the range of the samples and the background

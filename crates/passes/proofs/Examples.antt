@@ -3,7 +3,7 @@
 -- kernels out. Assumes nothing.
 use mathlib.Core.Path.{_≡_, refl, sym, ap, _∙_, subst}
 use mathlib.Core.List.{List, [], _∷_, map}
-use Prim.Native.Nat.{ℕ, _<_}
+use Prim.Native.Nat.{ℕ, _≤_, _<_}
 use native.Mathlib.Omega.{arith}
 use lib.Dec.{lit<}
 use lib.IntN.{ℤ, pos, negsuc, _+ℤ_}
@@ -20,7 +20,7 @@ use Rattle.kernels.specs.Kernel.{Kernel, Keys, Spline, weigh}
 use Rattle.spline.specs.Coefficients.{filter, run, u, down, back, v, scaled, coefficient}
 use Rattle.moves.specs.Move.{first, mixed, source, moved}
 use Rattle.moves.specs.Border.{framed, far, bordered, gone, fractionIn}
-use Rattle.moves.specs.Range.{InRange, Raised}
+use Rattle.moves.specs.Range.{InRange, Raised, RaisedWithin}
 use Rattle.passes.specs.Picture.{picture, pictured, shear, rows-moved, straighten}
 use Rattle.passes.specs.Count.{interpolated, count}
 use Rattle.passes.proofs.Stages.{rows-pass, columns-pass, straighten-stages}
@@ -86,7 +86,12 @@ pub keys-four-by-two-counts :
 unfolding floor remainder fraction far gone fractionIn interpolated count
 keys-four-by-two-counts = refl
 
--- ---- Q-12: pictures of 2 columns that passes 1 and 3 leave as they are, while pass 2 moves column 1 by half a sample
+-- ---- Q-12: pictures of 2 columns, by what each pass makes of them
+staged : (κ : Kernel) (H : ℕ) (rows columns : ℕ → ℤ) (s one two three : List ℤ) → 0 < H → rows-pass Wrapped κ 2 H rows s ≡ one → columns-pass Wrapped κ 2 H columns one ≡ two
+    → rows-pass Wrapped κ 2 H rows two ≡ three → straighten Wrapped κ 2 H rows columns s ≡ three
+staged κ H rows columns s one two three some first second third = straighten-stages Wrapped κ rows columns s (lit< tt) some ∙ rw (first, second) third
+
+-- pass 2 moves column 1 by half a sample, and passes 1 and 3 leave all as it is
 abbrev still : ℕ → ℤ
 still = shear (pos 0) 0
 
@@ -95,7 +100,7 @@ half = shear (negsuc 2047) 0
 
 halfway : (κ : Kernel) (H : ℕ) (s t : List ℤ) → 0 < H → rows-pass Wrapped κ 2 H still s ≡ s → columns-pass Wrapped κ 2 H half s ≡ t → rows-pass Wrapped κ 2 H still t ≡ t
     → straighten Wrapped κ 2 H still half s ≡ t
-halfway κ H s t some one two three = straighten-stages Wrapped κ still half s (lit< tt) some ∙ rw (one, two) three
+halfway κ H s t = staged κ H still half s s t t
 
 -- Keys and the spline overshoot: -1 and -25 from samples of 0 to 16 and of 0 to 100
 abbrev peak : List ℤ
@@ -140,3 +145,24 @@ spline-adds-not added =
     let e : pos 4 ≡ pos 3 = ap (λ (t : List ℤ). line t 1) (sym spline-six) ∙ added 1 (lit< tt) ∙ ap (λ (t : List ℤ). line t 1 +ℤ pos 1) spline-five in
     let z : _≡_ {A = ℕ} 4 3 = cc in
     omega arith
+
+-- ---- nor does the spline add 1 to within 1 unit, as it does to a line: rows and columns move by half a sample, and row 1 rises by 3
+abbrev tilt : ℕ → ℤ
+tilt = shear (pos 2048) 0
+
+abbrev seven : List ℤ
+seven = pos 7 ∷ pos 12 ∷ pos 9 ∷ pos 4 ∷ []
+
+abbrev eight : List ℤ
+eight = pos 8 ∷ pos 13 ∷ pos 10 ∷ pos 5 ∷ []
+
+spline-seven : straighten Wrapped Spline 2 2 tilt tilt seven ≡ pos 7 ∷ pos 9 ∷ pos 7 ∷ pos 7 ∷ []
+unfolding floor remainder round Σ fraction whole tab wrap weigh filter run u down back v scaled coefficient first mixed source moved bordered picture pictured rows-moved rows-pass columns-pass
+spline-seven = staged Spline 2 tilt tilt seven (pos 7 ∷ pos 12 ∷ pos 6 ∷ pos 6 ∷ []) (pos 7 ∷ pos 9 ∷ pos 6 ∷ pos 9 ∷ []) (pos 7 ∷ pos 9 ∷ pos 7 ∷ pos 7 ∷ []) (lit< tt) refl refl refl
+
+spline-eight : straighten Wrapped Spline 2 2 tilt tilt eight ≡ pos 8 ∷ pos 11 ∷ pos 10 ∷ pos 10 ∷ []
+unfolding floor remainder round Σ fraction whole tab wrap weigh filter run u down back v scaled coefficient first mixed source moved bordered picture pictured rows-moved rows-pass columns-pass
+spline-eight = staged Spline 2 tilt tilt eight (pos 8 ∷ pos 13 ∷ pos 8 ∷ pos 8 ∷ []) (pos 8 ∷ pos 11 ∷ pos 8 ∷ pos 11 ∷ []) (pos 8 ∷ pos 11 ∷ pos 10 ∷ pos 10 ∷ []) (lit< tt) refl refl refl
+
+pub spline-past-one : RaisedWithin 1 (pos 1) 4 (straighten Wrapped Spline 2 2 tilt tilt seven) (straighten Wrapped Spline 2 2 tilt tilt eight) → ⊥
+spline-past-one added = let far : 2 ≤ 1 = rw (spline-seven, spline-eight) at (added 2 (lit< tt)) in omega arith

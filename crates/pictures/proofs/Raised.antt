@@ -1,12 +1,12 @@
--- A number added to every sample and to the background of a picture is added to every sample of the picture straightened under linear or Keys.
--- Assumes nothing.
+-- A number added to every sample and to the background of a picture is added to every sample of the picture straightened under linear or Keys, and to within
+-- 13 units under the spline. Assumes nothing.
 use Prim.Native.Nat.{ℕ, _*_, _≤_, _<_}
 use mathlib.Core.Path.{_≡_, refl, sym, ap, _∙_}
 use mathlib.Core.Bool.{Bool}
 use mathlib.Core.List.{List, _++_}
 use native.Mathlib.Nat.{mul-pos}
 use native.Mathlib.Omega.{arith}
-use lib.IntN.{ℤ, _+ℤ_}
+use lib.IntN.{ℤ, natAbs, _+ℤ_, _-ℤ_}
 use lib.ListN.{length, take, drop}
 use Rattle.lists.specs.Line.{line}
 use Rattle.lists.specs.Ends.{smallest, largest}
@@ -14,11 +14,12 @@ use Rattle.lists.proofs.Ends.{smallest-plus, largest-plus}
 use Rattle.refusals.specs.declared.Verdict.the-variants.{Accepted}
 use Rattle.refusals.specs.Judging.{whenAccepted}
 use Rattle.settings.specs.declared.Setting.{Setting}
-use Rattle.moves.specs.Range.{Raised}
-use Rattle.moves.proofs.Range.{kernel-not-spline}
+use Rattle.moves.specs.Range.{Raised, RaisedWithin}
+use Rattle.moves.proofs.Range.{kernel-spline, kernel-not-spline}
 use Rattle.passes.specs.Picture.{straighten}
 use Rattle.passes.specs.Count.{count}
 use Rattle.passes.proofs.Range.{straighten-raised, count-raised}
+use Rattle.passes.proofs.Nearly.{straighten-nearly}
 use Rattle.acceptance.specs.Judge.{judgedOn, Fit}
 use Rattle.acceptance.proofs.Accepted.{accepted-fit, zero-accepted}
 use Rattle.pictures.specs.declared.Outcome.{Outcome}
@@ -54,20 +55,27 @@ module _ {other other₂ : Bool} {c : ℤ} {W H : ℕ} {s : Setting} {picture re
   fit : Fit W H s picture (length result) (length work)
   fit = was-fit other (both .first) (both .first-accepted)
 
-  left : Raised c (W * H) result′ result₂′
-  left i l =
+  left : s .kernel ≤ 1 → Raised c (W * H) result′ result₂′
+  left not-spline i l =
       was-straightened other₂ (both .second) (both .second-accepted) i l
-      ∙ straighten-raised (s .border) (kernelIn s) (kernel-not-spline (s .kernel) (omega (arith, both .not-spline))) (rowMoves s) (columnMoves s) (fit .width .0) (fit .height .0) c picture picture₂ (both .added) i l
+      ∙ straighten-raised (s .border) (kernelIn s) (kernel-not-spline (s .kernel) (omega (arith, not-spline))) (rowMoves s) (columnMoves s) (fit .width .0) (fit .height .0) c picture picture₂ (both .added) i l
       ∙ ap (λ v. v +ℤ c) (sym (was-straightened other (both .first) (both .first-accepted) i l))
 
-  pub picture-raised : PictureRaised c W H r result′ r₂ result₂′
+  nearly : s .kernel ≡ 2 → RaisedWithin 13 c (W * H) result′ result₂′
+  nearly spline i l =
+      let fit₂ = was-fit other₂ (both .second) (both .second-accepted) in
+      rw (was-straightened other (both .first) (both .first-accepted) i l, was-straightened other₂ (both .second) (both .second-accepted) i l, kernel-spline (s .kernel) spline)
+      (straighten-nearly (s .border) (rowMoves s) (columnMoves s) (fit .width .0) (fit .height .0) c (fit .background) (fit₂ .background) picture picture₂ (fit .samples) (fit₂ .samples) (both .added) i l)
+
+  pub picture-raised : PictureRaised c W H s r result′ r₂ result₂′
   picture-raised =
       let told = was-told other (both .first) (both .first-accepted) in
       let told₂ = was-told other₂ (both .second) (both .second-accepted) in
       let some : 1 ≤ W * H = mul-pos (fit .width .0) (fit .height .0) in
       record {
         samples = left;
-        smallest = told₂ .0 ∙ smallest-plus c (line result′) (line result₂′) (W * H) some left ∙ ap (λ v. v +ℤ c) (sym (told .0));
-        largest = told₂ .1 ∙ largest-plus c (line result′) (line result₂′) (W * H) some left ∙ ap (λ v. v +ℤ c) (sym (told .1));
+        smallest = λ h. told₂ .0 ∙ smallest-plus c (line result′) (line result₂′) (W * H) some (left h) ∙ ap (λ v. v +ℤ c) (sym (told .0));
+        largest = λ h. told₂ .1 ∙ largest-plus c (line result′) (line result₂′) (W * H) some (left h) ∙ ap (λ v. v +ℤ c) (sym (told .1));
+        nearly = λ h i l. omega (arith, nearly h i l);
         count = told₂ .2 ∙ count-raised c (s .border) W H (rowMoves s) (columnMoves s) ∙ sym (told .2);
       }

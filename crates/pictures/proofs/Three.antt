@@ -19,7 +19,7 @@ use Rattle.moves.proofs.Border.{bordered-local, moveIn-at}
 use Rattle.passes.specs.Picture.{Picture, picture, pictured, turned, Places, rows-moved, after-one, after-two}
 use Rattle.passes.proofs.Places.{inside, length-pictured, pictured-at, picture-at, at-index}
 use Rattle.passes.proofs.Stages.{rows-pass, columns-pass, one, two}
-use Rattle.exact.proofs.Passes.{after-one-range, after-two-range}
+use Rattle.passes.proofs.Reach.{after-one-range, after-two-range}
 use Rattle.shears.specs.Pass.{movedAt, linesMoved}
 
 -- ---- every line of one direction is its moved line

@@ -4,6 +4,7 @@
 --     Existence      every line has them, over one denominator for its length
 --     Settle, Near   the rounded coefficients are within 37/11 of 16 times the exact ones
 --     ExactList      the same of lists
+--     Raised         a number added to every sample of a line
 --     Sizes          how large u, v and c come
 --     Examples       coefficients of short lines, computed
 pub mod Rules
@@ -12,5 +13,6 @@ pub mod Existence
 pub mod Settle
 pub mod Near
 pub mod ExactList
+pub mod Raised
 pub mod Sizes
 pub mod Examples

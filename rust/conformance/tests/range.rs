@@ -1,6 +1,6 @@
 //! What the kernels keep: under linear every output sample lies between the smallest and the largest of the
 //! samples and the background; under linear and Keys a number that is added to all of them is added to every
-//! output sample, as long as both calls are accepted.
+//! output sample, as long as both calls are accepted, and under the spline nearly so.
 
 use conformance::calls::{LineCall, Outcome, PictureCall};
 use conformance::numbers::Numbers;
@@ -16,6 +16,8 @@ for_both_implementations!(
     linear_and_keys_add_a_number_to_every_picture,
     linear_and_keys_add_a_number_to_every_line,
     the_spline_does_not_always_add_a_number,
+    the_spline_adds_a_number_to_within_1_unit_of_a_line,
+    the_spline_adds_a_number_to_within_13_units_of_a_picture,
     a_background_that_is_left_where_it_was,
     as_long_as_both_are_accepted,
 );
@@ -149,6 +151,15 @@ fn addable_to_picture(numbers: &mut Numbers, call: &PictureCall) -> i32 {
     addable(numbers, range(&call.picture, call.setting.border), 32_767)
 }
 
+/// A number to add to a line that stays accepted: the background's range is narrower than that of the samples.
+fn addable_to_line(numbers: &mut Numbers, call: &LineCall) -> i32 {
+    let added = addable(numbers, Extremes::of(&call.line), 294_912);
+    match call.border {
+        Border::Wrapped => added,
+        Border::Background(value) => added.clamp(-32_767 - value, 32_767 - value),
+    }
+}
+
 fn linear_and_keys_add_a_number_to_every_picture(implementation: &dyn Implementation) {
     let (mut numbers, mut tried) = (Numbers::seeded(124), 0);
     for call in pictures(125, 0).chain(pictures(126, 1)) {
@@ -163,11 +174,7 @@ fn linear_and_keys_add_a_number_to_every_picture(implementation: &dyn Implementa
 fn linear_and_keys_add_a_number_to_every_line(implementation: &dyn Implementation) {
     let (mut numbers, mut tried) = (Numbers::seeded(127), 0);
     for call in lines(128, 0).chain(lines(129, 1)) {
-        // The background's range is narrower than that of a line's samples.
-        let mut added = addable(&mut numbers, Extremes::of(&call.line), 294_912);
-        if let Border::Background(value) = call.border {
-            added = added.clamp(-32_767 - value, 32_767 - value);
-        }
+        let added = addable_to_line(&mut numbers, &call);
         let higher = call.raised(added).run(implementation);
         assert_added(&call.run(implementation), &higher, added, &call);
         tried += usize::from(added != 0);
@@ -184,12 +191,42 @@ fn the_spline_does_not_always_add_a_number(implementation: &dyn Implementation) 
     let call = PictureCall::fitting((2, 2), setting, vec![0, 5, 0, 0]);
     assert_eq!(call.run(implementation).result, [0, 2, 0, 2]);
     assert_eq!(call.raised(1).run(implementation).result, [1, 4, 1, 4]);
+}
+
+/// How far at most the samples of the second of two accepted calls lie from those of the first with a number
+/// added; their counts are the same.
+fn off(outcome: &Outcome, higher: &Outcome, added: i32) -> i32 {
+    assert_eq!([outcome.answer.number, higher.answer.number], [0; 2], "both are accepted");
+    assert_eq!(outcome.answer.count, higher.answer.count);
+    let samples = outcome.result.iter().zip(&higher.result);
+    samples.map(|(sample, higher)| (higher - (sample + added)).abs()).max().expect("a sample")
+}
+
+fn the_spline_adds_a_number_to_within_1_unit_of_a_line(implementation: &dyn Implementation) {
+    let mut numbers = Numbers::seeded(132);
+    let differing = lines(133, 2).filter(|call| {
+        let added = addable_to_line(&mut numbers, call);
+        let off = off(&call.run(implementation), &call.raised(added).run(implementation), added);
+        assert!(off <= 1, "{added} added to {call:?}");
+        off == 1
+    });
+    assert!(differing.count() > MANY / 8, "many lines differ");
+}
+
+/// A picture by hand whose lower row rises by 3 where 1 is added, and many a random picture.
+fn the_spline_adds_a_number_to_within_13_units_of_a_picture(implementation: &dyn Implementation) {
+    let setting = Setting::default().with_kernel(2).with_shears(2_048, 2_048);
+    let call = PictureCall::fitting((2, 2), setting, vec![7, 12, 9, 4]);
+    assert_eq!(call.run(implementation).result, [7, 9, 7, 7]);
+    assert_eq!(call.raised(1).run(implementation).result, [8, 11, 10, 10]);
     let mut numbers = Numbers::seeded(130);
-    let differs = |call: &PictureCall| {
+    let differing = pictures(131, 2).filter(|call| {
         let added = addable_to_picture(&mut numbers, call);
-        call.raised(added).run(implementation) != raised(&call.run(implementation), added)
-    };
-    assert!(pictures(131, 2).filter(differs).count() > MANY / 4, "many pictures differ");
+        let off = off(&call.run(implementation), &call.raised(added).run(implementation), added);
+        assert!(off <= 13, "{added} added to {call:?}");
+        off > 0
+    });
+    assert!(differing.count() > MANY / 4, "many pictures differ");
 }
 
 fn a_background_that_is_left_where_it_was(implementation: &dyn Implementation) {
