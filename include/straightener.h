@@ -255,7 +255,7 @@ typedef struct {
  * samples, the background being one of them where it is set: linear never overshoots. With kernels 0 and
  * 1, of two accepted calls that are alike but that the second has one number added to every sample and to
  * the background, the second's samples, smallest and largest are higher by that number; with kernel 2 its
- * samples are so to within 13 units. Its count is the same.
+ * samples lie within 13 units of that. Its count is the same.
  */
 straightener_answer straightener_straighten(size_t width, size_t height, straightener_setting setting,
                                             const int32_t *picture, size_t picture_len,
@@ -317,7 +317,7 @@ size_t straightener_work_places(size_t width, size_t height);
  * of the line, and beyond the background, the kernel has overshot, which linear never does. With kernels
  * 0 and 1, of two accepted calls that are alike but that the second has one number added to every sample
  * and to the background, the second's samples, smallest and largest are higher by that number; with kernel
- * 2 its samples are so to within 1 unit. Its count is the same.
+ * 2 its samples lie within 1 unit of that. Its count is the same.
  */
 straightener_answer straightener_move_line(size_t n, uint32_t kernel, int32_t d,
                                            uint32_t border, int32_t background,

@@ -17,7 +17,7 @@ use Rattle.refusals.specs.Judging.{whenAccepted}
 use Rattle.settings.specs.declared.Border.{Border}
 use Rattle.kernels.specs.Kernel.{kernelOf}
 use Rattle.moves.specs.Border.{moveIn}
-use Rattle.moves.specs.Range.{raised, Raised, RaisedWithin}
+use Rattle.moves.specs.Range.{Raised, RaisedWithin}
 use Rattle.moves.proofs.Range.{linear-keys-add, fraction-raised, kernel-spline, kernel-not-spline}
 use Rattle.moves.proofs.Nearly.{moveIn-nearly}
 use Rattle.lines.specs.declared.LineOutcome.{LineOutcome}
@@ -59,21 +59,19 @@ module _ {c : ℤ} {n kernel : ℕ} {d : ℤ} {β : Border} {line₁ result work
       let inside : k < n = omega (arith, taken m) in
       getD-take n line₂ k (pos 0) inside ∙ both .added k inside ∙ ap (λ v. v +ℤ c) (sym (getD-take n line₁ k (pos 0) inside))
 
-  m₂ : Movable n kernel d (raised c β) line₂ (length result₂) (length work₂)
-  m₂ = was-movable (both .second) (both .second-accepted)
-
   left : kernel ≤ 1 → Raised c n result′ result₂′
   left not-spline k l =
       was-moved (both .second) (both .second-accepted) k l
-      ∙ linear-keys-add (kernelOf kernel) (kernel-not-spline kernel (omega (arith, not-spline))) c β d (take n line₁) (take n line₂) (taken m₂ ∙ sym (taken m)) handed k (omega (arith, taken m))
+      ∙ linear-keys-add (kernelOf kernel) (kernel-not-spline kernel (omega (arith, not-spline))) c β d (take n line₁) (take n line₂) (taken (was-movable (both .second) (both .second-accepted)) ∙ sym (taken m)) handed k (omega (arith, taken m))
       ∙ ap (λ v. v +ℤ c) (sym (was-moved (both .first) (both .first-accepted) k l))
 
   -- the samples that are moved are within a line's range
   within : {β : Border} {line₀ : List ℤ} {result work : ℕ} (m : Movable n kernel d β line₀ result work) (k : ℕ) → k < n → natAbs (line (take n line₀) k) ≤ 294912
-  within {line₀ = line₀} m k l = rw (getD-take n line₀ k (pos 0) l) (m .samples k l)
+  within {line₀ = line₀} m k l = rw (getD-take n line₀ k (pos 0) l) (omega (arith, m .samples k l))
 
   nearly : kernel ≡ 2 → RaisedWithin 1 c n result′ result₂′
   nearly spline k l =
+      let m₂ = was-movable (both .second) (both .second-accepted) in
       rw (was-moved (both .first) (both .first-accepted) k l, was-moved (both .second) (both .second-accepted) k l, kernel-spline kernel spline)
       (moveIn-nearly c β d (take n line₁) (take n line₂) (taken m₂ ∙ sym (taken m)) (m .plain) (m₂ .plain)
       (λ k l. within m k (omega (arith, taken m))) (λ k l. within m₂ k (omega (arith, taken m))) handed k (omega (arith, taken m)))
@@ -84,7 +82,7 @@ module _ {c : ℤ} {n kernel : ℕ} {d : ℤ} {β : Border} {line₁ result work
       let told = was-told (both .first) (both .first-accepted) in
       let told₂ = was-told (both .second) (both .second-accepted) in
       record {
-        samples = left;
+        samples = λ h. left (omega (arith, h));
         smallest = λ h. told₂ .0 ∙ smallest-plus c (line result′) (line result₂′) n (m .some) (left h) ∙ ap (λ v. v +ℤ c) (sym (told .0));
         largest = λ h. told₂ .1 ∙ largest-plus c (line result′) (line result₂′) n (m .some) (left h) ∙ ap (λ v. v +ℤ c) (sym (told .1));
         nearly = nearly;

@@ -73,7 +73,7 @@ module _ {other other₂ : Bool} {c : ℤ} {W H : ℕ} {s : Setting} {picture re
       let told₂ = was-told other₂ (both .second) (both .second-accepted) in
       let some : 1 ≤ W * H = mul-pos (fit .width .0) (fit .height .0) in
       record {
-        samples = left;
+        samples = λ h. left (omega (arith, h));
         smallest = λ h. told₂ .0 ∙ smallest-plus c (line result′) (line result₂′) (W * H) some (left h) ∙ ap (λ v. v +ℤ c) (sym (told .0));
         largest = λ h. told₂ .1 ∙ largest-plus c (line result′) (line result₂′) (W * H) some (left h) ∙ ap (λ v. v +ℤ c) (sym (told .1));
         nearly = λ h i l. omega (arith, nearly h i l);

@@ -9,7 +9,7 @@ use std::fs;
 const PRINTED: &str = "lines: 14 as the document has them\n\
                        work places: 7680 for 640 by 480, 3840 for a line of 640\n\
                        pictures: 741 852 963, count 0; 0 10 5 5, count 2\n\
-                       1000 added to all: linear keeps its range, Keys overshoots\n\
+                       1000 added to all: linear keeps its range, Keys and the spline overshoot\n\
                        tickets: 4 lines asked, 4 committed\n\
                        lower row: wrapped 30 90 10 20, on background -1 -1 10 20\n\
                        refusals: 1 2 3 4 5 6 7 8 9 12 14\n\

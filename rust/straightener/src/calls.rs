@@ -71,7 +71,7 @@ pub fn line_work_places(length: usize) -> usize {
 /// picture's samples, the background being one of them where it is set. With linear and [`Kernel::Keys`], of
 /// two accepted calls that are alike but that the second has one number added to every sample and to the
 /// background, the second's samples, smallest and largest are higher by that number; with
-/// [`Kernel::Spline`] its samples are so to within 13 units. Its count is the same.
+/// [`Kernel::Spline`] its samples lie within 13 units of that. Its count is the same.
 ///
 /// Refused with [`Refusal::Size`], [`Refusal::Buffer`], [`Refusal::Centre`], [`Refusal::Shear`],
 /// [`Refusal::Background`] or [`Refusal::Sample`], the first of them that applies; then no buffer is
@@ -138,7 +138,7 @@ pub fn straightened(
 /// with linear it lies between the smallest and the largest of the line's samples, the background being one
 /// of them where it is set. With linear and Keys, of two accepted calls that are alike but that the second
 /// has one number added to every sample and to the background, the second's samples, smallest and largest are
-/// higher by that number; with the spline its samples are so to within 1 unit.
+/// higher by that number; with the spline its samples lie within 1 unit of that.
 ///
 /// Refused with [`Refusal::Size`], [`Refusal::Buffer`], [`Refusal::Shear`], [`Refusal::Background`] or
 /// [`Refusal::Sample`].

@@ -5,6 +5,7 @@
 #include "straightener.h"
 
 #include <stdio.h>
+#include <stdlib.h>
 #include <string.h>
 
 /* What an untouched place of a buffer holds. */
@@ -135,33 +136,36 @@ static void pictures(void)
            (int)s[0], (int)s[1], (int)s[2], (int)s[3], (unsigned)sheared.count);
 }
 
-/* A picture, and the same with 1,000 added to every sample and to the background, under linear and Keys. */
+/* A picture, and the same with 1,000 added to every sample and to the background: under linear and Keys every
+ * sample of the result is 1,000 higher, under the spline to within 13 units. */
 static void added(void)
 {
     enum { WIDTH = 8, HEIGHT = 6, PLACES = WIDTH * HEIGHT, ADDED = 1000, BACKGROUND = -2500 };
     int32_t picture[PLACES], higher[PLACES], r[PLACES], h[PLACES], work[12 * WIDTH];
     uint32_t kernel, border;
-    int k, range[2] = {0, 0}, beyond[2] = {0, 0};
+    int k, range[3] = {0, 0, 0}, beyond[3] = {0, 0, 0};
     for (k = 0; k < PLACES; k++) {
         picture[k] = k % 5 == 0 ? -2000 : 2000;
         higher[k] = picture[k] + ADDED;
     }
-    for (kernel = 0; kernel < 2; kernel++)
+    for (kernel = 0; kernel <= STRAIGHTENER_SPLINE; kernel++)
         for (border = 0; border < 2; border++) {
+            int nearly = kernel == STRAIGHTENER_SPLINE ? 13 : 0;
             straightener_setting s = {kernel, 3, 2, 700, -900, border, BACKGROUND}, t = s;
             straightener_answer lower, upper;
             t.background += ADDED;
             lower = straightener_straighten(WIDTH, HEIGHT, s, picture, PLACES, r, PLACES, work, 12 * WIDTH);
             upper = straightener_straighten(WIDTH, HEIGHT, t, higher, PLACES, h, PLACES, work, 12 * WIDTH);
             expect(lower.number == 0 && is(upper, 0, 0, 0, lower.count));
-            expect(upper.smallest == lower.smallest + ADDED && upper.largest == lower.largest + ADDED);
+            expect(abs(upper.smallest - (lower.smallest + ADDED)) <= nearly);
+            expect(abs(upper.largest - (lower.largest + ADDED)) <= nearly);
             for (k = 0; k < PLACES; k++)
-                expect(h[k] == r[k] + ADDED);
+                expect(abs(h[k] - (r[k] + ADDED)) <= nearly);
             range[kernel] += lower.smallest >= (border ? BACKGROUND : -2000) && lower.largest <= 2000;
             beyond[kernel] += lower.largest > 2000;
         }
-    expect(range[0] == 2 && beyond[1] == 2);
-    printf("1000 added to all: linear keeps its range, Keys overshoots\n");
+    expect(range[0] == 2 && beyond[1] == 2 && beyond[2] == 2);
+    printf("1000 added to all: linear keeps its range, Keys and the spline overshoot\n");
 }
 
 /* Whether a ticket has this size and count, and the setting s, field by field. */
