@@ -1,11 +1,11 @@
 -- Q-12's second sentence under the spline, of a pass and of three, under both borders: pictures that differ by a number to within m units differ by it to within
 -- 3·m + 1 after a pass; so one number added to every sample and to the background is added to every sample of three passes to within 13 units
 -- (`straighten-nearly`). Assumes nothing.
-use mathlib.Core.Path.{_≡_, sym, subst, subst₂}
+use mathlib.Core.Path.{sym, subst₂}
 use mathlib.Core.List.{List}
 use Prim.Native.Nat.{ℕ, _+_, _*_, _≤_, _<_}
 use native.Mathlib.Omega.{arith}
-use lib.IntN.{ℤ, pos, natAbs, _+ℤ_, _-ℤ_}
+use lib.IntN.{ℤ, pos, natAbs}
 use lib.Signed.{_≤ℤ_, leZ-yes}
 use Rattle.arith.proofs.Within.{Within, within-size, size-within}
 use Rattle.lists.specs.Line.{line}
@@ -14,7 +14,7 @@ use Rattle.kernels.specs.Kernel.{Spline}
 use Rattle.moves.specs.Border.{grey}
 use Rattle.moves.specs.Range.{raised, Raised, RaisedWithin}
 use Rattle.moves.proofs.Nearly.{Nearly, nearly-equal, onward, bordered-nearly}
-use Rattle.passes.specs.Picture.{Picture, picture, turned, Places, rows-moved, after-one, after-two, straightened, straighten}
+use Rattle.passes.specs.Picture.{Picture, picture, Places, rows-moved, after-one, after-two, straightened, straighten}
 use Rattle.passes.proofs.Places.{inside, at-index, straighten-at}
 use Rattle.passes.proofs.Reach.{row-small, grey-small, after-one-range, after-two-range}
 
