@@ -1,5 +1,5 @@
--- A number added to every sample of a line is added to its exact coefficients (`solution-raised`), and so 16 times the number to its rounded ones, to within 8
--- of 16ths: of two lines that differ by the number to within m, to within 48·m + 8 (`coefficient-raised`). Assumes nothing.
+-- A number added to every sample of a line is added to its exact coefficients (`solution-raised`), and so 16 times the number to its rounded ones, to within 8;
+-- where two lines differ by the number to within m, to within 48·m + 8 (`coefficient-raised`). Assumes nothing.
 use mathlib.Core.Path.{_≡_}
 use Prim.Native.Nat.{ℕ, suc, _%_, _<_}
 use native.Mathlib.Nat.{mod-lt}
