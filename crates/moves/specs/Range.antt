@@ -37,7 +37,7 @@ raised c (Background b) = Background (b +ℤ c)
 abbrev pub Raised : ℤ → ℕ → List ℤ → List ℤ → Type 0
 Raised c n s t = (k : ℕ) → k < n → line t k ≡ line s k +ℤ c
 
--- the same to within m units
+-- the same to within m units, which is said of the spline; document 02 has no such sentence
 abbrev pub RaisedWithin : ℕ → ℤ → ℕ → List ℤ → List ℤ → Type 0
 RaisedWithin m c n s t = (k : ℕ) → k < n → natAbs (line t k -ℤ (line s k +ℤ c)) ≤ m
 
