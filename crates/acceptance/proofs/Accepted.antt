@@ -15,14 +15,14 @@ use Rattle.refusals.specs.declared.Found.the-variants.{Nothing, At}
 use Rattle.refusals.specs.declared.Verdict.{Verdict}
 use Rattle.refusals.specs.declared.Verdict.the-variants.{Accepted, Refused}
 use Rattle.refusals.specs.Tests.{badSide, badSize, short, badKernel, beyondOf, firstBad}
-use Rattle.refusals.specs.Judging.{refusedIf, ofFound, numberOf, rowOf, columnOf}
+use Rattle.refusals.specs.Judging.{refusedIf, ofFound, andThen, numberOf, rowOf, columnOf}
 use Rattle.refusals.proofs.Tests.{or-false, size-good, short-good, kernel-good, beyond-good, good-beyond}
-use Rattle.refusals.proofs.Judging.{refusedIf-accepted, ofFound-accepted, AcceptedByZero, by-zero-if, by-zero-found}
+use Rattle.refusals.proofs.Judging.{refusedIf-accepted, ofFound-accepted, andThen-accepted, AcceptedByZero, by-zero-if, by-zero-found}
 use Rattle.refusals.proofs.First.{nothing-bad, BadAt, first-bad}
 use Rattle.settings.specs.declared.Setting.{Setting}
 use Rattle.moves.specs.Border.{badBackground}
 use Rattle.moves.proofs.Border.{background-good, good-background}
-use Rattle.acceptance.specs.Judge.{range, workPlaces, tooShort, badCentre, badShears, judgedOn, judged, Fit}
+use Rattle.acceptance.specs.Judge.{range, workPlaces, tooShort, badCentre, badShears, judgedSetting, FitSetting, judgedOn, judged, Fit}
 
 -- ---- what each test that failed tells
 pub long-enough : (W H picture result work : ℕ) → tooShort W H picture result work ≡ false → (W * H ≤ picture) × (W * H ≤ result) × (12 * max W H ≤ work)
@@ -46,11 +46,46 @@ shears-within : (s : Setting) → badShears s ≡ false → (natAbs (s .a) ≤ 4
 unfolding badShears
 shears-within s e = let a = or-false (beyondOf 4096 (s .a)) _ e in (beyond-good (s .a) (a .0), beyond-good (s .b) (a .1))
 
+-- ---- a size and a setting that no number refuses
+some : {n : ℕ} → 1 ≤ n → n ≡ 0 → ⊥
+some h e = omega arith
+
+pub fit-size : (W H : ℕ) → (1 ≤ W) × (W ≤ 1024) → (1 ≤ H) × (H ≤ 1024) → badSize W H ≡ false
+unfolding badSize badSide
+fit-size W H width height = rw (ne-eqb W 0 (some (width .0)), le-ltb 1024 W (width .1), ne-eqb H 0 (some (height .0)), le-ltb 1024 H (height .1)) refl
+
+pub setting-accepted : {W H : ℕ} {s : Setting} → FitSetting W H s → judgedSetting W H s ≡ Accepted
+unfolding badCentre badShears badKernel
+setting-accepted {W} {H} {s} f =
+    rw (
+      lt-leb W (s .cx) (f .centre .0),
+      lt-leb H (s .cy) (f .centre .1),
+      good-beyond (s .a) (f .shears .0),
+      good-beyond (s .b) (f .shears .1),
+      le-ltb 2 (s .kernel) (f .kernel),
+      good-background (s .border) (f .background),
+    )
+    refl
+
+pub accepted-setting : (W H : ℕ) (s : Setting) → judgedSetting W H s ≡ Accepted → FitSetting W H s
+accepted-setting W H s e =
+    let three = refusedIf-accepted (badCentre W H s) 3 _ e in
+    let four = refusedIf-accepted (badShears s) 4 _ (three .1) in
+    let five = refusedIf-accepted (badKernel (s .kernel)) 5 _ (four .1) in
+    let twelve = refusedIf-accepted (badBackground (s .border)) 12 _ (five .1) in
+    record {
+      centre = centre-inside W H s (three .0);
+      shears = shears-within s (four .0);
+      kernel = kernel-good (five .0);
+      background = background-good (s .border) (twelve .0);
+    }
+
 -- the range that the passes and demand 3 are proved for
 pub fit-range : {W H : ℕ} {s : Setting} {picture : List ℤ} {result work : ℕ} → Fit W H s picture result work → (i : ℕ) → i < W * H
     → natAbs (line picture i) ≤ 32767
 fit-range f i l = omega (arith, f .samples i l)
 
+-- ---- what a verdict says of the sample that it names
 -- row and column are 0 except under 6
 abbrev ZeroButSix : Verdict → Type 0
 ZeroButSix v = (numberOf v ≡ 6 → ⊥) → (rowOf v ≡ 0) × (columnOf v ≡ 0)
@@ -63,44 +98,45 @@ zero-found : (f : Found) → ZeroButSix (ofFound f)
 zero-found Nothing other = (refl, refl)
 zero-found (At row column) other = absurd (other refl)
 
+-- a verdict before a sample is read: its number is neither 0 nor 6, and it names no place
+record Unread (v : Verdict) : Type 0 where
+  some-number : AcceptedByZero v
+  not-six : numberOf v ≡ 6 → ⊥
+  nowhere : ZeroButSix v
+
+unread-if : (t : Bool) (number : ℕ) (later : Verdict) → (number ≡ 0 → ⊥) → (number ≡ 6 → ⊥) → Unread later → Unread (refusedIf t number later)
+unread-if true number later some other u = record { some-number = λ e. absurd (some e); not-six = other; nowhere = λ e. (refl, refl) }
+unread-if false number later some other u = u
+
+setting-unread : (W H : ℕ) (s : Setting) → Unread (judgedSetting W H s)
+setting-unread W H s =
+    unread-if (badCentre W H s) 3 _ (λ e. omega arith) (λ e. omega arith) (unread-if (badShears s) 4 _ (λ e. omega arith) (λ e. omega arith)
+    (unread-if (badKernel (s .kernel)) 5 _ (λ e. omega arith) (λ e. omega arith) (unread-if (badBackground (s .border)) 12 _ (λ e. omega arith) (λ e. omega arith)
+    (record { some-number = λ e. refl; not-six = λ e. omega arith; nowhere = λ e. (refl, refl) }))))
+
+zero-then : (v later : Verdict) → Unread v → ZeroButSix later → ZeroButSix (andThen v later)
+zero-then Accepted later u z = z
+zero-then (Refused number row column) later u z = u .nowhere
+
+by-zero-then : (v later : Verdict) → Unread v → AcceptedByZero later → AcceptedByZero (andThen v later)
+by-zero-then Accepted later u z = z
+by-zero-then (Refused number row column) later u z = u .some-number
+
+-- ---- the whole chain
 module _ (W H : ℕ) (s : Setting) (picture : List ℤ) (result work : ℕ) where
   -- past every other test the samples alone are judged
-  pub only-samples : (other : Bool) → badSize W H ≡ false → tooShort W H (length picture) result work ≡ false → other ≡ false → badCentre W H s ≡ false
-      → badShears s ≡ false → badKernel (s .kernel) ≡ false → badBackground (s .border) ≡ false
+  pub only-samples : (other : Bool) → badSize W H ≡ false → tooShort W H (length picture) result work ≡ false → other ≡ false → judgedSetting W H s ≡ Accepted
       → judgedOn other W H s picture result work ≡ ofFound (firstBad range W H picture)
   unfolding judgedOn
-  only-samples other size buffers same centre shears kernel background =
-      passed 1 size (passed 2 buffers (passed 14 same (passed 3 centre (passed 4 shears (passed 5 kernel (passed 12 background refl))))))
-    where
-      passed : {t : Bool} (number : ℕ) {later v : Verdict} → t ≡ false → later ≡ v → refusedIf t number later ≡ v
-      passed number e l = rw e l
+  only-samples other size buffers same setting = rw (size, buffers, same, setting) refl
 
   -- a call that passes every test is accepted
   pub fit-accepted : Fit W H s picture result work → judged W H s picture result work ≡ Accepted
-  fit-accepted f = only-samples false size buffers refl centre shears kernel background ∙ ap ofFound samples
+  fit-accepted f = only-samples false (fit-size W H (f .width) (f .height)) buffers refl (setting-accepted (f .setting)) ∙ ap ofFound samples
     where
-      some : {n : ℕ} → 1 ≤ n → n ≡ 0 → ⊥
-      some h e = omega arith
-
-      size : badSize W H ≡ false
-      size = unfold badSize badSide in
-          rw (ne-eqb W 0 (some (f .width .0)), le-ltb 1024 W (f .width .1), ne-eqb H 0 (some (f .height .0)), le-ltb 1024 H (f .height .1)) refl
-
       buffers : tooShort W H (length picture) result work ≡ false
       buffers = unfold tooShort short in
           rw (le-ltb (length picture) (W * H) (f .picture-places), le-ltb result (W * H) (f .result-places), le-ltb work (12 * max W H) (f .work-places)) refl
-
-      centre : badCentre W H s ≡ false
-      centre = unfold badCentre in rw (lt-leb W (s .cx) (f .centre .0), lt-leb H (s .cy) (f .centre .1)) refl
-
-      shears : badShears s ≡ false
-      shears = unfold badShears in rw (good-beyond (s .a) (f .shears .0), good-beyond (s .b) (f .shears .1)) refl
-
-      kernel : badKernel (s .kernel) ≡ false
-      kernel = unfold badKernel in le-ltb 2 (s .kernel) (f .kernel)
-
-      background : badBackground (s .border) ≡ false
-      background = good-background (s .border) (f .background)
 
       samples : firstBad range W H picture ≡ Nothing
       samples = nothing-bad range W H picture .1 (λ i l. f .samples i (omega (arith, mul-comm W H)))
@@ -113,11 +149,8 @@ module _ (other : Bool) (W H : ℕ) (s : Setting) (picture : List ℤ) (result w
       let one = refusedIf-accepted (badSize W H) 1 _ e in
       let two = refusedIf-accepted (tooShort W H (length picture) result work) 2 _ (one .1) in
       let fourteen = refusedIf-accepted other 14 _ (two .1) in
-      let three = refusedIf-accepted (badCentre W H s) 3 _ (fourteen .1) in
-      let four = refusedIf-accepted (badShears s) 4 _ (three .1) in
-      let five = refusedIf-accepted (badKernel (s .kernel)) 5 _ (four .1) in
-      let twelve = refusedIf-accepted (badBackground (s .border)) 12 _ (five .1) in
-      let six = nothing-bad range W H picture .0 (ofFound-accepted (firstBad range W H picture) (twelve .1)) in
+      let setting = andThen-accepted (judgedSetting W H s) _ (fourteen .1) in
+      let six = nothing-bad range W H picture .0 (ofFound-accepted (firstBad range W H picture) (setting .1)) in
       let size = size-good (one .0) in
       let long = long-enough W H (length picture) result work (two .0) in
       record {
@@ -126,10 +159,7 @@ module _ (other : Bool) (W H : ℕ) (s : Setting) (picture : List ℤ) (result w
         picture-places = long .0;
         result-places = long .1;
         work-places = long .2;
-        centre = centre-inside W H s (three .0);
-        shears = shears-within s (four .0);
-        kernel = kernel-good (five .0);
-        background = background-good (s .border) (twelve .0);
+        setting = accepted-setting W H s (setting .0);
         samples = λ i l. six i (omega (arith, mul-comm W H));
       }
 
@@ -140,15 +170,16 @@ module _ (other : Bool) (W H : ℕ) (s : Setting) (picture : List ℤ) (result w
       let one = past (badSize W H) 1 _ y x (λ q. omega arith) e in
       let two = past (tooShort W H (length picture) result work) 2 _ y x (λ q. omega arith) one in
       let fourteen = past other 14 _ y x (λ q. omega arith) two in
-      let three = past (badCentre W H s) 3 _ y x (λ q. omega arith) fourteen in
-      let four = past (badShears s) 4 _ y x (λ q. omega arith) three in
-      let five = past (badKernel (s .kernel)) 5 _ y x (λ q. omega arith) four in
-      let twelve = past (badBackground (s .border)) 12 _ y x (λ q. omega arith) five in
-      first-bad range W H picture y x .0 (found (firstBad range W H picture) y x twelve)
+      let setting = past-then (judgedSetting W H s) _ y x (setting-unread W H s) fourteen in
+      first-bad range W H picture y x .0 (found (firstBad range W H picture) y x setting)
     where
       past : (t : Bool) (number : ℕ) (later : Verdict) (y x : ℕ) → (number ≡ 6 → ⊥) → refusedIf t number later ≡ Refused 6 y x → later ≡ Refused 6 y x
       past true number later y x l e = absurd (l cc)
       past false number later y x l e = e
+
+      past-then : (v later : Verdict) (y x : ℕ) → Unread v → andThen v later ≡ Refused 6 y x → later ≡ Refused 6 y x
+      past-then Accepted later y x u e = e
+      past-then (Refused number row column) later y x u e = absurd (u .not-six (ap numberOf e))
 
       found : (f : Found) (y x : ℕ) → ofFound f ≡ Refused 6 y x → f ≡ At y x
       found Nothing y x e = let z : _≡_ {A = ℕ} 0 1 = cc in absurd (omega arith)
@@ -161,13 +192,12 @@ module _ (other : Bool) (W H : ℕ) (s : Setting) (picture : List ℤ) (result w
   pub refused-zero : ZeroButSix (judgedOn other W H s picture result work)
   unfolding judgedOn
   refused-zero =
-      zero-if (badSize W H) 1 _ (zero-if (tooShort W H (length picture) result work) 2 _ (zero-if other 14 _ (zero-if (badCentre W H s) 3 _
-      (zero-if (badShears s) 4 _ (zero-if (badKernel (s .kernel)) 5 _ (zero-if (badBackground (s .border)) 12 _ (zero-found (firstBad range W H picture))))))))
+      zero-if (badSize W H) 1 _ (zero-if (tooShort W H (length picture) result work) 2 _ (zero-if other 14 _
+      (zero-then (judgedSetting W H s) _ (setting-unread W H s) (zero-found (firstBad range W H picture)))))
 
   -- no number is 0, so that 0 says that the call is accepted
   pub zero-accepted : AcceptedByZero (judgedOn other W H s picture result work)
   unfolding judgedOn
   zero-accepted =
       by-zero-if (badSize W H) 1 _ (λ e. omega arith) (by-zero-if (tooShort W H (length picture) result work) 2 _ (λ e. omega arith)
-      (by-zero-if other 14 _ (λ e. omega arith) (by-zero-if (badCentre W H s) 3 _ (λ e. omega arith) (by-zero-if (badShears s) 4 _ (λ e. omega arith)
-      (by-zero-if (badKernel (s .kernel)) 5 _ (λ e. omega arith) (by-zero-if (badBackground (s .border)) 12 _ (λ e. omega arith) (by-zero-found (firstBad range W H picture))))))))
+      (by-zero-if other 14 _ (λ e. omega arith) (by-zero-then (judgedSetting W H s) _ (setting-unread W H s) (by-zero-found (firstBad range W H picture)))))

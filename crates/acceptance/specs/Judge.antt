@@ -6,8 +6,9 @@ use lib.Dec.{leb}
 use lib.IntN.{ℤ, natAbs}
 use lib.ListN.{length}
 use Rattle.refusals.specs.declared.Verdict.{Verdict}
+use Rattle.refusals.specs.declared.Verdict.the-variants.{Accepted}
 use Rattle.refusals.specs.Tests.{badSize, short, badKernel, beyondOf, AllWithin, firstBad}
-use Rattle.refusals.specs.Judging.{refusedIf, ofFound}
+use Rattle.refusals.specs.Judging.{refusedIf, ofFound, andThen}
 use Rattle.settings.specs.declared.Setting.{Setting}
 use Rattle.moves.specs.Border.{badBackground, grey}
 
@@ -31,18 +32,29 @@ badCentre W H s = leb W (s .cx) || leb H (s .cy)
 unfoldable pub badShears : Setting → Bool
 badShears s = beyondOf 4096 (s .a) || beyondOf 4096 (s .b)
 
--- the number that a call with a result and work of so many places is refused under, 14 judged after 2 and before 3, and 12 after 5 and before 6;
--- 6 with the first sample beyond its range, in row order. `other` says that the call is made on a ticket of another size (Q-7)
+-- the number that a setting is refused under, on a picture of that size: 12 is judged after 5
+abbrev pub judgedSetting : ℕ → ℕ → Setting → Verdict
+judgedSetting W H s =
+    refusedIf (badCentre W H s) 3
+    (refusedIf (badShears s) 4
+    (refusedIf (badKernel (s .kernel)) 5
+    (refusedIf (badBackground (s .border)) 12 Accepted)))
+
+-- none applies, in plain bounds
+pub record FitSetting (W H : ℕ) (s : Setting) : Type 0 where
+  pub centre : (s .cx < W) × (s .cy < H)
+  pub shears : (natAbs (s .a) ≤ 4096) × (natAbs (s .b) ≤ 4096)
+  pub kernel : s .kernel ≤ 2
+  pub background : natAbs (grey (s .border)) ≤ 32767
+
+-- the number that a call with a result and work of so many places is refused under, 14 judged after 2 and before the setting; 6 with the first sample
+-- beyond its range, in row order. `other` says that the call is made on a ticket of another size (Q-7)
 unfoldable pub judgedOn : Bool → ℕ → ℕ → Setting → List ℤ → ℕ → ℕ → Verdict
 judgedOn other W H s picture result work =
     refusedIf (badSize W H) 1
     (refusedIf (tooShort W H (length picture) result work) 2
     (refusedIf other 14
-    (refusedIf (badCentre W H s) 3
-    (refusedIf (badShears s) 4
-    (refusedIf (badKernel (s .kernel)) 5
-    (refusedIf (badBackground (s .border)) 12
-    (ofFound (firstBad range W H picture))))))))
+    (andThen (judgedSetting W H s) (ofFound (firstBad range W H picture)))))
 
 -- the same of a call on no ticket, which 14 does not refuse
 abbrev pub judged : ℕ → ℕ → Setting → List ℤ → ℕ → ℕ → Verdict
@@ -55,8 +67,5 @@ pub record Fit (W H : ℕ) (s : Setting) (picture : List ℤ) (result work : ℕ
   pub picture-places : W * H ≤ length picture
   pub result-places : W * H ≤ result
   pub work-places : 12 * max W H ≤ work
-  pub centre : (s .cx < W) × (s .cy < H)
-  pub shears : (natAbs (s .a) ≤ 4096) × (natAbs (s .b) ≤ 4096)
-  pub kernel : s .kernel ≤ 2
-  pub background : natAbs (grey (s .border)) ≤ 32767
+  pub setting : FitSetting W H s
   pub samples : AllWithin range (W * H) picture

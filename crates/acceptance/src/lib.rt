@@ -2,7 +2,7 @@
 // is written.
 ghost use mathlib.Core.Path.{_≡_};
 ghost use Prim.Native.Nat.{_*_, _≤_, max};
-ghost use Rattle.acceptance.specs.Judge.{workPlaces, tooShort, badCentre, badShears, judgedOn, judged};
+ghost use Rattle.acceptance.specs.Judge.{workPlaces, tooShort, badCentre, badShears, judgedSetting, judgedOn, judged};
 use refusals::Verdict;
 use settings::Setting;
 
@@ -57,8 +57,28 @@ fn bad_shears(setting: Setting) -> bool
     refusals::beyond(setting.a, 4096) || refusals::beyond(setting.b, 4096)
 }
 
-// The number that a call is refused under, of a call with a result and work of so many places. 14 is judged after 2 and before 3, where
-// `other` says that the call is made on a ticket of another size; 12 after 5 and before 6.
+// The number that a setting is refused under, on a picture of `width` by `height` samples: 3, 4, 5 or 12, in this order.
+pub fn judge_setting(width: usize, height: usize, setting: Setting) -> Verdict
+    ensures { λ r. ⌜ r ≡ judgedSetting width height setting ⌝ }
+{
+    if bad_centre(width, height, setting) {
+        return Verdict::Refused(3, 0, 0);
+    }
+    if bad_shears(setting) {
+        return Verdict::Refused(4, 0, 0);
+    }
+    if 2 < setting.kernel {
+        return Verdict::Refused(5, 0, 0);
+    }
+    let border = setting.border;
+    if moves::bad_background(border) {
+        return Verdict::Refused(12, 0, 0);
+    }
+    Verdict::Accepted
+}
+
+// The number that a call is refused under, of a call with a result and work of so many places. 14 is judged after 2 and before the setting, where
+// `other` says that the call is made on a ticket of another size.
 pub fn judge_on(
     other: bool,
     width: usize,
@@ -79,20 +99,11 @@ pub fn judge_on(
     if other {
         return Verdict::Refused(14, 0, 0);
     }
-    if bad_centre(width, height, setting) {
-        return Verdict::Refused(3, 0, 0);
+    let verdict = judge_setting(width, height, setting);
+    match verdict {
+        Verdict::Refused(_, _, _) => verdict,
+        Verdict::Accepted => refusals::scanned(picture, width, height, RANGE),
     }
-    if bad_shears(setting) {
-        return Verdict::Refused(4, 0, 0);
-    }
-    if 2 < setting.kernel {
-        return Verdict::Refused(5, 0, 0);
-    }
-    let border = setting.border;
-    if moves::bad_background(border) {
-        return Verdict::Refused(12, 0, 0);
-    }
-    refusals::scanned(picture, width, height, RANGE)
 }
 
 // The same of a call that is made on no ticket.

@@ -86,10 +86,7 @@ copy-fit {W} {H} {s} {picture} copy room f e big =
       picture-places = omega (arith, long);
       result-places = omega (arith, long);
       work-places = big;
-      centre = f .centre;
-      shears = f .shears;
-      kernel = f .kernel;
-      background = f .background;
+      setting = f .setting;
       samples = λ i l. rw (e, getD-take (W * H) picture i (pos 0) l) (f .samples i l);
     }
   where
@@ -133,11 +130,11 @@ module _ (v : Verdict) (W H : ℕ) (s : Setting) (picture result work : List ℤ
         count = rw e counted;
         smallest = rw (e, found) (sym (smallest-rows W H third (line result′) (f .width .0) (f .height .0) same));
         largest = rw (e, found) (sym (largest-rows W H third (line result′) (f .width .0) (f .height .0) same));
-        few = omega (arith, counted, count-bound (s .border) W H (s .cx) (s .cy) (s .a) (s .b) (f .centre .0) (f .centre .1));
+        few = omega (arith, counted, count-bound (s .border) W H (s .cx) (s .cy) (s .a) (s .b) (f .setting .centre .0) (f .setting .centre .1));
         written = rw e done;
-        readable = λ a i l. rw (sym (getD-take (W * H) result′ i (pos 0) l), first) (straighten-size β κ rows columns picture (f .width .0) (f .height .0) (f .background) in-range i l);
+        readable = λ a i l. rw (sym (getD-take (W * H) result′ i (pos 0) l), first) (straighten-size β κ rows columns picture (f .width .0) (f .height .0) (f .setting .background) in-range i l);
         cleared = rw e zero;
-        demand3 = λ a. subst (Demand3 β κ W H rows columns picture) (sym first) (straighten-demand3 β κ W H rows columns picture (f .width .0) (f .height .0) (f .background) in-range);
+        demand3 = λ a. subst (Demand3 β κ W H rows columns picture) (sym first) (straighten-demand3 β κ W H rows columns picture (f .width .0) (f .height .0) (f .setting .background) in-range);
         no-overshoot = λ a linear. within (omega (arith, linear));
         told-in-range = λ a linear. rw found (extremes-in-range β (W * H) picture result′ (mul-pos (f .width .0) (f .height .0)) (within (omega (arith, linear))));
       }

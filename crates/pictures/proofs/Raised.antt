@@ -65,7 +65,7 @@ module _ {other other₂ : Bool} {c : ℤ} {W H : ℕ} {s : Setting} {picture re
   nearly spline i l =
       let fit₂ = was-fit other₂ (both .second) (both .second-accepted) in
       rw (was-straightened other (both .first) (both .first-accepted) i l, was-straightened other₂ (both .second) (both .second-accepted) i l, kernel-spline (s .kernel) spline)
-      (straighten-nearly (s .border) (rowMoves s) (columnMoves s) (fit .width .0) (fit .height .0) c (fit .background) (fit₂ .background) picture picture₂ (fit .samples) (fit₂ .samples) (both .added) i l)
+      (straighten-nearly (s .border) (rowMoves s) (columnMoves s) (fit .width .0) (fit .height .0) c (fit .setting .background) (fit₂ .setting .background) picture picture₂ (fit .samples) (fit₂ .samples) (both .added) i l)
 
   pub picture-raised : PictureRaised c W H s r result′ r₂ result₂′
   picture-raised =

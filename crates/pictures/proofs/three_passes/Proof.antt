@@ -65,10 +65,10 @@ module _ (s : tie.Start) where
   twice-long = columns-pass-length β κ W H columns once
 
   a-is : toZ w32 (ofZ w32 (s .args .setting .a)) ≡ s .args .setting .a
-  a-is = toZ-ofZ (sfits-natAbs (s .args .setting .a) (s .pre .0 .shears .0) (lit< tt))
+  a-is = toZ-ofZ (sfits-natAbs (s .args .setting .a) (s .pre .0 .setting .shears .0) (lit< tt))
 
   b-is : toZ w32 (ofZ w32 (s .args .setting .b)) ≡ s .args .setting .b
-  b-is = toZ-ofZ (sfits-natAbs (s .args .setting .b) (s .pre .0 .shears .1) (lit< tt))
+  b-is = toZ-ofZ (sfits-natAbs (s .args .setting .b) (s .pre .0 .setting .shears .1) (lit< tt))
 
   rows-movable : (kernel room : ℕ) → kernel ≤ 2 → room ≡ length (s .args .work .now)
       → Movable β W H kernel (s .args .setting .a) (s .args .setting .cy) room
@@ -79,9 +79,9 @@ module _ (s : tie.Start) where
         short = f .width .1;
         few = f .height .1;
         known = known;
-        slight = f .shears .0;
-        central = omega (arith, f .centre .1, f .height .1);
-        plain = omega (arith, f .background);
+        slight = f .setting .shears .0;
+        central = omega (arith, f .setting .centre .1, f .height .1);
+        plain = omega (arith, f .setting .background);
         roomy = omega (arith, places-few β W, f .work-places);
       }
 
@@ -94,9 +94,9 @@ module _ (s : tie.Start) where
         short = f .height .1;
         few = f .width .1;
         known = known;
-        slight = f .shears .1;
-        central = omega (arith, f .centre .0, f .width .1);
-        plain = omega (arith, f .background);
+        slight = f .setting .shears .1;
+        central = omega (arith, f .setting .centre .0, f .width .1);
+        plain = omega (arith, f .setting .background);
         roomy = omega (arith, places-few β H, f .work-places);
       }
 
@@ -123,14 +123,14 @@ pass-requires : tie.Need-pass-requires
 pass-requires c κs =
     let s = c .before .before .before .before in
     rw (a-is s)
-    (rows-movable s _ _ (omega (arith, s .pre .0 .kernel)) refl, (as-rows s (s .args .picture .now) (s .pre .1), first-range (β s) (κ s) (rows s) (columns s) (s .args .picture .now) (wide s) (high s) (s .pre .0 .background) (fit-range (s .pre .0))))
+    (rows-movable s _ _ (omega (arith, s .pre .0 .setting .kernel)) refl, (as-rows s (s .args .picture .now) (s .pre .1), first-range (β s) (κ s) (rows s) (columns s) (s .args .picture .now) (wide s) (high s) (s .pre .0 .setting .background) (fit-range (s .pre .0))))
 
 pass-requires-2 : tie.Need-pass-requires-2
 pass-requires-2 c κs =
     let p = c .before .before .before .before in
     let s = p .before .before .before .before .before in
     rw (b-is s, first-is p)
-    (columns-movable s _ _ (omega (arith, s .pre .0 .kernel)) (p .pass .kept .1 .0), (as-columns s (once s) (once-long s), second-range (β s) (κ s) (rows s) (columns s) (s .args .picture .now) (wide s) (high s) (s .pre .0 .background) (fit-range (s .pre .0))))
+    (columns-movable s _ _ (omega (arith, s .pre .0 .setting .kernel)) (p .pass .kept .1 .0), (as-columns s (once s) (once-long s), second-range (β s) (κ s) (rows s) (columns s) (s .args .picture .now) (wide s) (high s) (s .pre .0 .setting .background) (fit-range (s .pre .0))))
 
 pass-requires-3 : tie.Need-pass-requires-3
 pass-requires-3 c κs =
@@ -138,7 +138,7 @@ pass-requires-3 c κs =
     let o = p .before .before .before .before .before in
     let s = o .before .before .before .before .before in
     rw (a-is s, second-is p)
-    (rows-movable s _ _ (omega (arith, s .pre .0 .kernel)) (p .pass2 .kept .1 .0 ∙ o .pass .kept .1 .0), (as-rows s (twice s) (twice-long s), third-range (β s) (κ s) (rows s) (columns s) (s .args .picture .now) (wide s) (high s) (s .pre .0 .background) (fit-range (s .pre .0))))
+    (rows-movable s _ _ (omega (arith, s .pre .0 .setting .kernel)) (p .pass2 .kept .1 .0 ∙ o .pass .kept .1 .0), (as-rows s (twice s) (twice-long s), third-range (β s) (κ s) (rows s) (columns s) (s .args .picture .now) (wide s) (high s) (s .pre .0 .setting .background) (fit-range (s .pre .0))))
 
 add-result : tie.Need-add-result
 add-result c = search needs

@@ -27,7 +27,7 @@ count-of-requires c κs =
     let j = c .before .before in
     let a = j .before .args in
     let f = accepted-fit false (a .width) (a .height) (a .setting) (a .picture .now) _ _ (sym (judged j) ∙ c .enum-told2 .given .1) in
-    ((f .width .1, f .height .1, f .centre .0, f .centre .1), f .shears)
+    ((f .width .1, f .height .1, f .setting .centre .0, f .setting .centre .1), f .setting .shears)
 
 returns : tie.Need-returns
 returns c =
