@@ -133,6 +133,15 @@ module _ {β : Border} {κ : Kernel} {W H : ℕ} {rows columns : ℕ → ℤ} (h
 
   -- ---- the limits
   module _ {X E : Picture} {Q : ℤ} (outer : Within (pos 32767) (grey β)) (range : Places W H (λ y x. Within (pos 32767) (X y x))) (a : ExactPicture β κ W H rows columns X E Q) where
+    fits : (reach κ 32767 ≤ 294912) × (reach κ (reach κ 32767) ≤ 294912) × (reach κ (reach κ (reach κ 32767)) ≤ 1048576)
+    fits = reach-fits κ 32767 (omega arith)
+
+    once : Ranged W H (reach κ 32767) (after-one β κ W rows X)
+    once = range₁ β κ rows columns hW hH 32767 (omega arith) outer range
+
+    twice : Ranged W H (reach κ (reach κ 32767)) (after-two β κ W H rows columns X)
+    twice = range₂ β κ rows columns hW hH 32767 (omega arith) outer range
+
     -- at every place |v·Q - E| ≤ 3/2·Q, 61/32·Q or 39/4·Q
     pub straightened-sharp : Places W H (λ y x. Within (pos (sharp κ) *ℤ Q) (pos 64 *ℤ (straightened β κ W H rows columns X y x *ℤ Q -ℤ E y x)))
     straightened-sharp y x hy hx =
@@ -151,11 +160,11 @@ module _ {β : Border} {κ : Kernel} {W H : ℕ} {rows columns : ℕ → ℤ} (h
 
         close₂ : Close W H (pos 16) e₂ (after-two β κ W H rows columns X) (a .E₂) (a .Q₂)
         close₂ =
-            turn-close (rows-close hH (reach κ 32767) (pos 4) e₁ (reach-fits κ .0) (outer₁ β κ outer) (leZ-yes tt) (a .first .positive) (turn-ranged (range₁ β κ rows columns hW hH outer range))
+            turn-close (rows-close hH (reach κ 32767) (pos 4) e₁ (fits .0) (outer₁ β κ 32767 outer) (leZ-yes tt) (a .first .positive) (turn-ranged once)
             (turn-close close₁) (a .second))
 
         close₃ : Close W H (pos 64) (pos (base κ) *ℤ pos 16 +ℤ pos (growth κ) *ℤ e₂) (straightened β κ W H rows columns X) E Q
-        close₃ = rows-close hW (reach κ (reach κ 32767)) (pos 16) e₂ (reach-fits κ .1) (outer₂ β κ outer) (leZ-yes tt) (a .second .positive) (range₂ β κ rows columns hW hH outer range) close₂ (a .third)
+        close₃ = rows-close hW (reach κ (reach κ 32767)) (pos 16) e₂ (fits .1) (outer₂ β κ 32767 outer) (leZ-yes tt) (a .second .positive) twice close₂ (a .third)
 
     -- so |v·Q - E| ≤ 3/2·Q, 2·Q or 10·Q
     pub straightened-near : Places W H (λ y x. Within (pos (limit κ) *ℤ Q) (pos 2 *ℤ (straightened β κ W H rows columns X y x *ℤ Q -ℤ E y x)))
@@ -173,8 +182,8 @@ module _ {β : Border} {κ : Kernel} {W H : ℕ} {rows columns : ℕ → ℤ} (h
         → ((y : ℕ) → y < H → ExactMove β κ W (rows y) (after-two β κ W H rows columns X y) (pos 1) (G₃ y) (pos 1))
         → Equal W H (straightened β κ W H rows columns X) (pos 1) E Q
     exact-where-whole w₁ w₂ w₃ =
-        rows-whole hW (reach κ (reach κ 32767)) (reach-fits κ .1) (outer₂ β κ outer) (a .second .positive) (range₂ β κ rows columns hW hH outer range) w₃ (turn-equal (rows-whole hH (reach κ 32767)
-        (reach-fits κ .0) (outer₁ β κ outer) (a .first .positive) (turn-ranged (range₁ β κ rows columns hW hH outer range)) w₂
+        rows-whole hW (reach κ (reach κ 32767)) (fits .1) (outer₂ β κ 32767 outer) (a .second .positive) twice w₃ (turn-equal (rows-whole hH (reach κ 32767)
+        (fits .0) (outer₁ β κ 32767 outer) (a .first .positive) (turn-ranged once) w₂
         (turn-equal (rows-whole hW 32767 (omega arith) outer (ltZ-yes tt) (record { place = range }) w₁ (record { place = λ y x hy hx. refl }) (a .first)))
         (a .second))) (a .third)
 
@@ -195,4 +204,4 @@ module _ {β : Border} {κ : Kernel} {W H : ℕ} {rows columns : ℕ → ℤ} (h
         grey₁ = rows-grey β κ rows 32767 g hW (omega arith) outer (record { place = range }) agrees grey
 
         grey₂ : Places W H (λ y x. after-two β κ W H rows columns X y x ≡ g)
-        grey₂ y x hy hx = rows-grey β κ columns (reach κ 32767) g hH (reach-fits κ .0) (outer₁ β κ outer) (turn-ranged (range₁ β κ rows columns hW hH outer range)) agrees (λ x y hx hy. grey₁ y x hy hx) x y hx hy
+        grey₂ y x hy hx = rows-grey β κ columns (reach κ 32767) g hH (fits .0) (outer₁ β κ 32767 outer) (turn-ranged once) agrees (λ x y hx hy. grey₁ y x hy hx) x y hx hy

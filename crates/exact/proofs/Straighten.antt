@@ -9,8 +9,8 @@ use lib.Signed.{_<ℤ_}
 use Rattle.arith.proofs.Bridge.{bridge, all1, all2}
 use Rattle.lists.specs.Line.{Line, line}
 use Rattle.passes.proofs.Places.{inside, length-pictured, pictured-at, picture-pictured, picture-at, at-index}
-use Rattle.passes.proofs.Reach.{straightened-reach}
-use Rattle.arith.proofs.Within.{Within, within-size, size-within}
+use Rattle.passes.proofs.Reach.{sample-range}
+use Rattle.arith.proofs.Within.{Within, size-within}
 use Rattle.settings.specs.declared.Border.{Border}
 use Rattle.settings.specs.declared.Border.the-variants.{Wrapped, Background}
 use Rattle.kernels.specs.Kernel.{Kernel, Linear, Keys, Spline, norm, D³}
@@ -69,23 +69,13 @@ module _ (β : Border) (κ : Kernel) {W H : ℕ} (rows columns : ℕ → ℤ) (s
       subst₂ (λ x x′. x *ℤ Q′ ≡ x′ *ℤ Q) (picture-at W E i) (picture-at W E′ i) (at-index (λ y x. picture W E y x *ℤ Q′ ≡ picture W E′ y x *ℤ Q) hW
       (exact-picture-only hW hH (a .exact) (a′ .exact) .place) i l)
 
-  module _ (plain : natAbs (grey β) ≤ 32767) (range : (i : ℕ) → i < W * H → natAbs (line s i) ≤ 32767) where
+  module _ {E : List ℤ} {Q : ℤ} (plain : natAbs (grey β) ≤ 32767) (range : (i : ℕ) → i < W * H → natAbs (line s i) ≤ 32767) (a : ExactList β κ W H rows columns s E Q) where
     outer : Within (pos 32767) (grey β)
     outer = size-within (grey β) 32767 plain
 
     in-range : Places W H (λ y x. Within (pos 32767) (picture W s y x))
-    unfolding picture
-    in-range y x hy hx = size-within (line s (y * W + x)) 32767 (range (y * W + x) (inside W H y x hy hx))
+    in-range = sample-range s range
 
-    -- the result is within the range for readings
-    pub straighten-size : (i : ℕ) → i < W * H → natAbs (line (straighten β κ W H rows columns s) i) ≤ 1048576
-    unfolding straighten
-    straighten-size i l =
-        within-size (line (straighten β κ W H rows columns s) i) 1048576
-        (subst (Within (pos 1048576)) (sym (pictured-at W H (straightened β κ W H rows columns (picture W s)) i l))
-        (at-index (λ y x. Within (pos 1048576) (straightened β κ W H rows columns (picture W s) y x)) hW (straightened-reach β κ rows columns hW hH outer in-range) i l))
-
-  module _ {E : List ℤ} {Q : ℤ} (plain : natAbs (grey β) ≤ 32767) (range : (i : ℕ) → i < W * H → natAbs (line s i) ≤ 32767) (a : ExactList β κ W H rows columns s E Q) where
     -- a statement about a place of the straightened picture and of the exact one, at an index
     carried : (A : ℤ → ℤ → Type 0) → Places W H (λ y x. A (straightened β κ W H rows columns (picture W s) y x) (picture W E y x)) → (i : ℕ)
         → i < W * H → A (line (straighten β κ W H rows columns s) i) (line E i)
@@ -98,7 +88,7 @@ module _ (β : Border) (κ : Kernel) {W H : ℕ} (rows columns : ℕ → ℤ) (s
     pub straighten-near : (i : ℕ) → i < W * H → 2 * natAbs (line (straighten β κ W H rows columns s) i *ℤ Q -ℤ line E i) ≤ limit κ * natAbs Q
     straighten-near i l =
         size κ (line (straighten β κ W H rows columns s) i *ℤ Q -ℤ line E i) Q (a .exact .third .positive) (carried (λ v e. Within (pos (limit κ) *ℤ Q)
-        (pos 2 *ℤ (v *ℤ Q -ℤ e))) (straightened-near hW hH (outer plain range) (in-range plain range) (a .exact)) i l)
+        (pos 2 *ℤ (v *ℤ Q -ℤ e))) (straightened-near hW hH outer in-range (a .exact)) i l)
       where
         size : (κ : Kernel) (x Q : ℤ) → pos 0 <ℤ Q → Within (pos (limit κ) *ℤ Q) (pos 2 *ℤ x) → 2 * natAbs x ≤ limit κ * natAbs Q
         size Linear = all2 _ (simp bridge (omega arith))
@@ -110,7 +100,7 @@ module _ (β : Border) (κ : Kernel) {W H : ℕ} (rows columns : ℕ → ℤ) (s
         → 64 * natAbs (line (straighten β κ W H rows columns s) i *ℤ Q -ℤ line E i) ≤ sharp κ * natAbs Q
     straighten-sharp i l =
         size κ (line (straighten β κ W H rows columns s) i *ℤ Q -ℤ line E i) Q (a .exact .third .positive)
-        (carried (λ v e. Within (pos (sharp κ) *ℤ Q) (pos 64 *ℤ (v *ℤ Q -ℤ e))) (straightened-sharp hW hH (outer plain range) (in-range plain range) (a .exact)) i l)
+        (carried (λ v e. Within (pos (sharp κ) *ℤ Q) (pos 64 *ℤ (v *ℤ Q -ℤ e))) (straightened-sharp hW hH outer in-range (a .exact)) i l)
       where
         size : (κ : Kernel) (x Q : ℤ) → pos 0 <ℤ Q → Within (pos (sharp κ) *ℤ Q) (pos 64 *ℤ x) → 64 * natAbs x ≤ sharp κ * natAbs Q
         size Linear = all2 _ (simp bridge (omega arith))
@@ -127,10 +117,10 @@ module _ (β : Border) (κ : Kernel) {W H : ℕ} (rows columns : ℕ → ℤ) (s
 
     pub straighten-whole : ((y : ℕ) → y < H → fraction (rows y) ≡ 0) → ((x : ℕ) → x < W → fraction (columns x) ≡ 0) → (i : ℕ) → i < W * H
         → line (straighten β κ W H rows columns s) i *ℤ Q ≡ line E i
-    straighten-whole hr hc = equal-at (exact-whole hW hH (outer plain range) (in-range plain range) (a .exact) hr hc)
+    straighten-whole hr hc = equal-at (exact-whole hW hH outer in-range (a .exact) hr hc)
 
     pub straighten-grey : (g : ℤ) → Agrees β g → ((i : ℕ) → i < W * H → line s i ≡ g) → (i : ℕ) → i < W * H
         → line (straighten β κ W H rows columns s) i *ℤ Q ≡ line E i
     unfolding picture
     straighten-grey g agrees grey =
-        equal-at (exact-grey hW hH (outer plain range) (in-range plain range) (a .exact) g agrees (λ y x hy hx. grey (y * W + x) (inside W H y x hy hx)))
+        equal-at (exact-grey hW hH outer in-range (a .exact) g agrees (λ y x hy hx. grey (y * W + x) (inside W H y x hy hx)))

@@ -16,7 +16,7 @@ use Rattle.moves.specs.Range.{raised, Raised, RaisedWithin}
 use Rattle.moves.proofs.Nearly.{Nearly, nearly-equal, onward, bordered-nearly}
 use Rattle.passes.specs.Picture.{Picture, picture, Places, rows-moved, after-one, after-two, straightened, straighten}
 use Rattle.passes.proofs.Places.{inside, at-index, straighten-at}
-use Rattle.passes.proofs.Reach.{row-small, grey-small, after-one-range, after-two-range}
+use Rattle.passes.proofs.Reach.{row-small, grey-small, sample-range, after-one-range, after-two-range}
 
 -- ---- one pass
 rows-nearly : (β : Border) {W H : ℕ} (move : ℕ → ℤ) {X Y : Picture} (c m : ℤ) → 0 < W → pos 0 ≤ℤ m → Within (pos 294912) (grey β) → Within (pos 294912) (grey (raised c β))
@@ -63,5 +63,5 @@ module _ (β : Border) {W H : ℕ} (rows columns : ℕ → ℤ) (hW : 0 < W) (hH
   straighten-nearly s t small small′ each i l =
       within-size _ 13 (subst₂ (Nearly (pos 13) c) (sym (straighten-at β Spline W H rows columns s i l)) (sym (straighten-at (raised c β) Spline W H rows columns t i l))
       (at-index (λ y x. Nearly (pos 13) c (straightened β Spline W H rows columns (picture W s) y x) (straightened (raised c β) Spline W H rows columns (picture W t) y x)) hW
-      (straightened-nearly (λ y x hy hx. size-within _ 32767 (small (y * W + x) (inside W H y x hy hx))) (λ y x hy hx. size-within _ 32767 (small′ (y * W + x) (inside W H y x hy hx)))
+      (straightened-nearly (sample-range s small) (sample-range t small′)
       (λ y x hy hx. nearly-equal (line s (y * W + x)) (line t (y * W + x)) c (each (y * W + x) (inside W H y x hy hx)))) i l))

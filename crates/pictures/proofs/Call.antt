@@ -28,8 +28,8 @@ use Rattle.passes.proofs.Rows.{moved-row-alone}
 use Rattle.passes.proofs.Count.{count-bound}
 use Rattle.passes.proofs.Stages.{rows-pass, columns-pass, rows-pass-length, straighten-stages}
 use Rattle.passes.proofs.Range.{straighten-in-range}
+use Rattle.passes.proofs.Reach.{straighten-size}
 use Rattle.exact.specs.Limits.{Demand3}
-use Rattle.exact.proofs.Straighten.{straighten-size}
 use Rattle.exact.proofs.Demand.{straighten-demand3}
 use Rattle.acceptance.specs.Judge.{range, judgedOn, Fit}
 use Rattle.acceptance.proofs.Accepted.{fit-range, refused-sample, refused-zero}

@@ -17,9 +17,9 @@ use Rattle.kernels.specs.Kernel.{Kernel}
 use Rattle.moves.specs.Border.{bordered, grey}
 use Rattle.moves.proofs.Border.{bordered-local, moveIn-at}
 use Rattle.passes.specs.Picture.{Picture, picture, pictured, turned, Places, rows-moved, after-one, after-two}
-use Rattle.passes.proofs.Places.{inside, length-pictured, pictured-at, picture-at, at-index}
+use Rattle.passes.proofs.Places.{length-pictured, pictured-at, picture-at, at-index}
 use Rattle.passes.proofs.Stages.{rows-pass, columns-pass, one, two}
-use Rattle.passes.proofs.Reach.{after-one-range, after-two-range}
+use Rattle.passes.proofs.Reach.{sample-range, after-one-range, after-two-range}
 use Rattle.shears.specs.Pass.{movedAt, linesMoved}
 
 -- ---- every line of one direction is its moved line
@@ -80,9 +80,8 @@ module _ (β : Border) (κ : Kernel) {W H : ℕ} (rows columns : ℕ → ℤ) (s
   outer = size-within (grey β) 32767 plain
 
   -- the samples, as a picture
-  sample-range : Places W H (λ y x. Within (pos 32767) (picture W s y x))
-  unfolding picture
-  sample-range y x hy hx = size-within (line s (y * W + x)) 32767 (range (y * W + x) (inside W H y x hy hx))
+  samples : Places W H (λ y x. Within (pos 32767) (picture W s y x))
+  samples = sample-range s range
 
   -- a range of all places, by the strides of rows and of columns
   by-rows : (t : List ℤ) (p : Picture) → Places W H (λ y x. picture W t y x ≡ p y x) → Places W H (λ y x. Within (pos 294912) (p y x))
@@ -99,11 +98,11 @@ module _ (β : Border) (κ : Kernel) {W H : ℕ} (rows columns : ℕ → ℤ) (s
       cross x k = omega arith
 
   pub first-range : Places W H (λ y k. natAbs (getD s (y * W + k * 1) (pos 0)) ≤ 294912)
-  first-range = by-rows s (picture W s) (λ y x hy hx. refl) (λ y x hy hx. widen (pos 32767) (pos 294912) (picture W s y x) (sample-range y x hy hx) (leZ-yes tt))
+  first-range = by-rows s (picture W s) (λ y x hy hx. refl) (λ y x hy hx. widen (pos 32767) (pos 294912) (picture W s y x) (samples y x hy hx) (leZ-yes tt))
 
   pub second-range : Places H W (λ x k. natAbs (getD (rows-pass β κ W H rows s) (x * 1 + k * W) (pos 0)) ≤ 294912)
-  second-range = by-columns (rows-pass β κ W H rows s) (after-one β κ W rows (picture W s)) (one β κ rows columns s hW hH) (after-one-range β κ rows columns hW hH outer sample-range)
+  second-range = by-columns (rows-pass β κ W H rows s) (after-one β κ W rows (picture W s)) (one β κ rows columns s hW hH) (after-one-range β κ rows columns hW hH outer samples)
 
   pub third-range : Places W H (λ y k. natAbs (getD (columns-pass β κ W H columns (rows-pass β κ W H rows s)) (y * W + k * 1) (pos 0)) ≤ 294912)
   third-range =
-      by-rows (columns-pass β κ W H columns (rows-pass β κ W H rows s)) (after-two β κ W H rows columns (picture W s)) (two β κ rows columns s hW hH) (after-two-range β κ rows columns hW hH outer sample-range)
+      by-rows (columns-pass β κ W H columns (rows-pass β κ W H rows s)) (after-two β κ W H rows columns (picture W s)) (two β κ rows columns s hW hH) (after-two-range β κ rows columns hW hH outer samples)
