@@ -6,13 +6,15 @@ use mathlib.Core.Bool.{Bool, true, false, cond}
 use mathlib.Core.List.{List}
 use Prim.Native.Nat.{ℕ, zero, suc, _+_, _*_, _≤_, _<_}
 use native.Mathlib.Omega.{arith}
-use lib.IntN.{ℤ, pos, _+ℤ_, _*ℤ_, *ℤ-comm}
+use lib.IntN.{ℤ, pos, natAbs, negℤ, _+ℤ_, _*ℤ_, *ℤ-comm}
 use lib.ListN.{length}
 use lib.Signed.{_≤ℤ_}
-use Rattle.arith.specs.Whole.{round}
+use Rattle.arith.specs.Whole.{round, minℤ, maxℤ}
 use Rattle.arith.specs.Sum.{Σ}
 use Rattle.arith.specs.Move.{fraction}
+use Rattle.arith.proofs.Bridge.{bridge, all3}
 use Rattle.arith.proofs.Laws.{≤ℤ-trans}
+use Rattle.arith.proofs.Within.{size-within}
 use Rattle.arith.proofs.Round.{round-between, round-shift}
 use Rattle.arith.proofs.Sums.{Σ-mean-upper, Σ-mean-lower}
 use Rattle.arith.proofs.Move.{fraction-low, fraction-high}
@@ -20,12 +22,13 @@ use Rattle.lists.specs.Line.{Line, wrap, line}
 use Rattle.lists.specs.Ends.{smallest, largest}
 use Rattle.lists.proofs.Cyclic.{wrap-every}
 use Rattle.lists.proofs.Ends.{min-left, min-right, max-left, max-right, smallest-is, largest-is, extreme-has}
+use Rattle.refusals.specs.Tests.{AllWithin}
 use Rattle.settings.specs.declared.Border.{Border}
 use Rattle.settings.specs.declared.Border.the-variants.{Wrapped, Background}
 use Rattle.kernels.specs.Kernel.{Kernel, Linear, Keys, Spline, kernelOf, norm, D³, weight, weigh}
 use Rattle.kernels.proofs.Weights.{sign, weight-nonNeg, weights-sum, norm-nonzero}
 use Rattle.moves.specs.Move.{first, mixed, source, moved}
-use Rattle.moves.specs.Border.{framed, far, bordered, moveIn, gone, fractionIn}
+use Rattle.moves.specs.Border.{framed, far, bordered, moveIn, gone, fractionIn, grey}
 use Rattle.moves.specs.Range.{lowest, highest, Between, InRange, raised, KeepsRange, Adds}
 use Rattle.moves.proofs.Rules.{moved-local}
 use Rattle.moves.proofs.Mixed.{mixed-plus}
@@ -53,6 +56,29 @@ extremes-in-range β n s t some within = (
   extreme-has _ (λ v. lowest β n s ≤ℤ v) (line t) n _ (smallest-is (line t) n some) (λ k l. within k l .0),
   extreme-has _ (λ v. v ≤ℤ highest β n s) (line t) n _ (largest-is (line t) n some) (λ k l. within k l .1),
 )
+
+-- and samples and a background within ±M have their range there
+pub range-within : (β : Border) (n : ℕ) (s : List ℤ) (M : ℕ) → 1 ≤ n → AllWithin M n s → natAbs (grey β) ≤ M
+    → (negℤ (pos M) ≤ℤ lowest β n s) × (highest β n s ≤ℤ pos M)
+range-within β n s M some each plain = by β plain
+  where
+    smallest-within : negℤ (pos M) ≤ℤ smallest (line s) n
+    smallest-within = extreme-has _ (λ v. negℤ (pos M) ≤ℤ v) (line s) n _ (smallest-is (line s) n some) (λ k l. size-within (line s k) M (each k l) .0)
+
+    largest-within : largest (line s) n ≤ℤ pos M
+    largest-within = extreme-has _ (λ v. v ≤ℤ pos M) (line s) n _ (largest-is (line s) n some) (λ k l. size-within (line s k) M (each k l) .1)
+
+    lower : (low x y : ℤ) → low ≤ℤ x → low ≤ℤ y → low ≤ℤ minℤ x y
+    lower = all3 _ (simp bridge (omega arith))
+
+    higher : (x y high : ℤ) → x ≤ℤ high → y ≤ℤ high → maxℤ x y ≤ℤ high
+    higher = all3 _ (simp bridge (omega arith))
+
+    by : (β : Border) → natAbs (grey β) ≤ M → (negℤ (pos M) ≤ℤ lowest β n s) × (highest β n s ≤ℤ pos M)
+    by Wrapped plain = (smallest-within, largest-within)
+    by (Background b) plain =
+        let outer = size-within b M plain in
+        (lower (negℤ (pos M)) (smallest (line s) n) b smallest-within (outer .0), higher (largest (line s) n) b (pos M) largest-within (outer .1))
 
 -- ---- linear's weights are not negative and sum to D³, so a weighted sum lies where its four places lie, and so does its rounding
 module _ {N : ℕ} {x : Line} (low high : ℤ) (h : 0 < N) (each : (k : ℕ) → k < N → Between low high (x k)) where

@@ -10,11 +10,12 @@ use lib.ListN.{length, take, drop, replicate}
 use lib.Seq.{getD-take, length-take-le, take-at}
 use Rattle.lists.specs.declared.Extremes.{Extremes}
 use Rattle.lists.specs.Line.{line}
-use Rattle.lists.specs.Ends.{extremesOf}
+use Rattle.lists.specs.Ends.{smallest, largest, extremesOf}
 use Rattle.lists.proofs.Ends.{smallest-rows, largest-rows}
 use Rattle.refusals.specs.declared.Verdict.{Verdict}
 use Rattle.refusals.specs.declared.Verdict.the-variants.{Accepted, Refused}
 use Rattle.refusals.specs.Judging as verdict
+use Rattle.refusals.specs.Judging.{whenAccepted}
 use Rattle.refusals.proofs.First.{BadAt}
 use Rattle.settings.specs.declared.Setting.{Setting}
 use Rattle.settings.specs.declared.Border.{Border}
@@ -32,9 +33,9 @@ use Rattle.passes.proofs.Reach.{straighten-size}
 use Rattle.exact.specs.Limits.{Demand3}
 use Rattle.exact.proofs.Demand.{straighten-demand3}
 use Rattle.acceptance.specs.Judge.{range, judgedOn, Fit}
-use Rattle.acceptance.proofs.Accepted.{fit-range, refused-sample, refused-zero}
+use Rattle.acceptance.proofs.Accepted.{fit-range, accepted-fit, zero-accepted, refused-sample, refused-zero}
 use Rattle.pictures.specs.declared.Outcome.{Outcome}
-use Rattle.pictures.specs.Answer.{numberOf, rowOf, columnOf, outcomeOf, kernelIn, rowMoves, columnMoves, thirdRows, Answered, AnswerOn}
+use Rattle.pictures.specs.Answer.{numberOf, rowOf, columnOf, countOf, smallestOf, largestOf, outcomeOf, kernelIn, rowMoves, columnMoves, thirdRows, Answered, AnswerOn}
 use Rattle.pictures.specs.declared.Outcome.the-variants as variants
 
 -- ---- the places of the picture after its first W·H are not read
@@ -174,6 +175,28 @@ pub answered-once : {v : Verdict} {W H : ℕ} {s : Setting} {picture result work
 answered-once {v} {W} {H} {s} a b =
     let w = a .written ∙ sym (b .written) in
     (a .outcome ∙ ap (outcomeOf v W H s) w ∙ sym (b .outcome), w, a .cleared ∙ sym (b .cleared))
+
+-- the figures of an accepted call: the extremes of the first W·H samples that it left, and the lines interpolated
+abbrev pub Told : ℕ → ℕ → Setting → List ℤ → Outcome → Type 0
+Told W H s result′ r =
+    (smallestOf r ≡ smallest (line result′) (W * H)) × (largestOf r ≡ largest (line result′) (W * H)) × (countOf r ≡ count (s .border) W H (rowMoves s) (columnMoves s))
+
+-- ---- a call that answers number 0: it was accepted, and its result holds the straightened picture
+module _ (other : Bool) {W H : ℕ} {s : Setting} {picture result work : List ℤ} {r : Outcome} {result′ work′ : List ℤ}
+    (a : AnswerOn other W H s picture result work r result′ work′) (zero : numberOf r ≡ 0) where
+  pub was-accepted : judgedOn other W H s picture (length result) (length work) ≡ Accepted
+  was-accepted = zero-accepted other W H s picture (length result) (length work) (sym (a .number) ∙ zero)
+
+  pub was-fit : Fit W H s picture (length result) (length work)
+  was-fit = accepted-fit other W H s picture (length result) (length work) was-accepted
+
+  pub was-straightened : (i : ℕ) → i < W * H → line result′ i ≡ line (straighten (s .border) (kernelIn s) W H (rowMoves s) (columnMoves s) picture) i
+  was-straightened =
+      written-at was-fit result result′
+      (a .written ∙ ap (λ v. whenAccepted v (straighten (s .border) (kernelIn s) W H (rowMoves s) (columnMoves s) (take (W * H) picture) ++ drop (W * H) result) result) was-accepted)
+
+  pub was-told : Told W H s result′ r
+  was-told = rw (a .outcome, was-accepted) (refl, refl, refl)
 
 -- ---- the row and the column of an answer: those of the first sample beyond the range, in row order, under 6, and 0 otherwise
 six : (v : Verdict) → verdict.numberOf v ≡ 6 → v ≡ Refused 6 (verdict.rowOf v) (verdict.columnOf v)

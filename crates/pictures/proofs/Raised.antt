@@ -1,55 +1,29 @@
 -- A number added to every sample and to the background of a picture is added to every sample of the picture straightened under linear or Keys, and to within
 -- 13 units under the spline. Assumes nothing.
-use Prim.Native.Nat.{ℕ, _*_, _≤_, _<_}
-use mathlib.Core.Path.{_≡_, refl, sym, ap, _∙_}
+use Prim.Native.Nat.{ℕ, _*_, _≤_}
+use mathlib.Core.Path.{_≡_, sym, ap, _∙_}
 use mathlib.Core.Bool.{Bool}
-use mathlib.Core.List.{List, _++_}
+use mathlib.Core.List.{List}
 use native.Mathlib.Nat.{mul-pos}
 use native.Mathlib.Omega.{arith}
 use lib.IntN.{ℤ, _+ℤ_}
-use lib.ListN.{length, take, drop}
+use lib.ListN.{length}
 use Rattle.lists.specs.Line.{line}
 use Rattle.lists.specs.Ends.{smallest, largest}
 use Rattle.lists.proofs.Ends.{smallest-plus, largest-plus}
-use Rattle.refusals.specs.declared.Verdict.the-variants.{Accepted}
-use Rattle.refusals.specs.Judging.{whenAccepted}
 use Rattle.settings.specs.declared.Setting.{Setting}
 use Rattle.moves.specs.Range.{Raised, RaisedWithin}
 use Rattle.moves.proofs.Range.{kernel-spline, kernel-not-spline}
-use Rattle.passes.specs.Picture.{straighten}
 use Rattle.passes.specs.Count.{count}
 use Rattle.passes.proofs.Range.{straighten-raised, count-raised}
 use Rattle.passes.proofs.Nearly.{straighten-nearly}
-use Rattle.acceptance.specs.Judge.{judgedOn, Fit}
-use Rattle.acceptance.proofs.Accepted.{accepted-fit, zero-accepted}
+use Rattle.acceptance.specs.Judge.{Fit}
 use Rattle.pictures.specs.declared.Outcome.{Outcome}
-use Rattle.pictures.specs.Answer.{numberOf, countOf, smallestOf, largestOf, kernelIn, rowMoves, columnMoves, AnswerOn}
+use Rattle.pictures.specs.Answer.{kernelIn, rowMoves, columnMoves}
 use Rattle.pictures.specs.Raised.{BothStraightened, PictureRaised}
-use Rattle.pictures.proofs.Call.{written-at}
+use Rattle.pictures.proofs.Call.{was-fit, was-straightened, was-told}
 
--- the figures of an accepted call: the extremes of the first W·H samples that it left, and the lines interpolated
-abbrev Told : ℕ → ℕ → Setting → List ℤ → Outcome → Type 0
-Told W H s result′ r =
-    (smallestOf r ≡ smallest (line result′) (W * H)) × (largestOf r ≡ largest (line result′) (W * H)) × (countOf r ≡ count (s .border) W H (rowMoves s) (columnMoves s))
-
--- ---- a call that answers number 0: it was accepted, and its result holds the straightened picture
-module _ (other : Bool) {W H : ℕ} {s : Setting} {picture result work : List ℤ} {r : Outcome} {result′ work′ : List ℤ}
-    (a : AnswerOn other W H s picture result work r result′ work′) (zero : numberOf r ≡ 0) where
-  was-accepted : judgedOn other W H s picture (length result) (length work) ≡ Accepted
-  was-accepted = zero-accepted other W H s picture (length result) (length work) (sym (a .number) ∙ zero)
-
-  was-fit : Fit W H s picture (length result) (length work)
-  was-fit = accepted-fit other W H s picture (length result) (length work) was-accepted
-
-  was-straightened : (i : ℕ) → i < W * H → line result′ i ≡ line (straighten (s .border) (kernelIn s) W H (rowMoves s) (columnMoves s) picture) i
-  was-straightened =
-      written-at was-fit result result′
-      (a .written ∙ ap (λ v. whenAccepted v (straighten (s .border) (kernelIn s) W H (rowMoves s) (columnMoves s) (take (W * H) picture) ++ drop (W * H) result) result) was-accepted)
-
-  was-told : Told W H s result′ r
-  was-told = rw (a .outcome, was-accepted) (refl, refl, refl)
-
--- ---- two of them
+-- ---- two accepted calls
 module _ {other other₂ : Bool} {c : ℤ} {W H : ℕ} {s : Setting} {picture result work : List ℤ} {r : Outcome} {result′ work′ picture₂ result₂ work₂ : List ℤ} {r₂ : Outcome} {result₂′ work₂′ : List ℤ}
     (both : BothStraightened other other₂ c W H s picture result work r result′ work′ picture₂ result₂ work₂ r₂ result₂′ work₂′) where
   fit : Fit W H s picture (length result) (length work)

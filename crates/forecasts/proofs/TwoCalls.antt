@@ -1,0 +1,153 @@
+-- What a forecast and a straightening of its size and setting promise together. Assumes nothing.
+use Prim.Native.Nat.{ℕ, _+_, _*_, _/_, zero, suc, _≤_, _<_, max}
+use mathlib.Core.Path.{_≡_, refl, sym, ap, _∙_, subst}
+use mathlib.Core.Bool.{Bool, true, false, _||_}
+use mathlib.Core.List.{List}
+use native.Mathlib.Nat.{mul-pos, le-trans}
+use native.Mathlib.Omega.{arith}
+use borrow.Author.Tests.{lt-ltb}
+use lib.IntN.{ℤ, pos, natAbs, negℤ}
+use lib.ListN.{length}
+use Rattle.arith.proofs.Laws.{≤ℤ-trans}
+use Rattle.arith.proofs.Within.{size-within}
+use Rattle.lists.specs.Line.{line}
+use Rattle.lists.proofs.Ends.{smallest-is, largest-is, extreme-has}
+use Rattle.refusals.specs.declared.Verdict.the-variants.{Accepted, Refused}
+use Rattle.refusals.specs.Tests.{badSize, short, AllWithin}
+use Rattle.refusals.specs.Judging as verdict
+use Rattle.settings.specs.declared.Border.{Border}
+use Rattle.settings.specs.declared.Setting.{Setting}
+use Rattle.kernels.specs.Kernel.{Kernel, Linear, Keys, Spline, kernelOf}
+use Rattle.moves.specs.Border.{grey}
+use Rattle.moves.specs.Range.{Between}
+use Rattle.moves.proofs.Range.{range-within, kernel-linear}
+use Rattle.moves.proofs.Reach.{reach}
+use Rattle.passes.specs.Count.{count}
+use Rattle.passes.proofs.Reach.{straighten-reach}
+use Rattle.acceptance.specs.Judge.{tooShort, judgedOn, Fit}
+use Rattle.acceptance.proofs.Accepted.{fit-size, fit-accepted}
+use Rattle.pictures.specs.declared.Outcome.{Outcome}
+use Rattle.pictures.specs.declared.Outcome.the-variants as outcome
+use Rattle.pictures.specs.Answer.{numberOf, countOf, smallestOf, largestOf, kernelIn, rowMoves, columnMoves}
+use Rattle.pictures.proofs.Call.{refused-answer, answered-once, was-accepted, was-fit, was-straightened, was-told}
+use Rattle.forecasts.specs.declared.Foretold.{Foretold}
+use Rattle.forecasts.specs.declared.Figures.{Figures}
+use Rattle.forecasts.specs.Figures.{judgedAhead, largestIn, onward, boundOf, figuresOf, forecastOf}
+use Rattle.forecasts.specs.TwoCalls.{TwoCalls, Bounded, Holds, Kept}
+use Rattle.forecasts.proofs.Accepted.{Foreseeable, accepted-ahead, only-largest}
+
+-- ---- the bound is what three passes reach
+three-reaches : (κ : Kernel) (M : ℕ) → reach κ (reach κ (reach κ M)) ≤ boundOf κ M
+three-reaches Linear M = omega arith
+three-reaches Keys M = omega arith
+three-reaches Spline M = omega arith
+
+-- ---- neither a sample within M nor the background is larger
+samples-small : (β : Border) (M : ℕ) → M ≤ largestIn β M
+samples-small β M = omega arith
+
+background-small : (β : Border) (M : ℕ) → natAbs (grey β) ≤ largestIn β M
+background-small β M = omega arith
+
+in-range : (β : Border) (M : ℕ) → M ≤ 32767 → natAbs (grey β) ≤ 32767 → largestIn β M ≤ 32767
+in-range β M few plain = omega arith
+
+-- ---- the work is what number 2 asks for
+or-true : (a b : Bool) → b ≡ true → (a || b) ≡ true
+or-true true b e = refl
+or-true false b e = e
+
+work-short : (W H picture result work : ℕ) → work < 12 * max W H → tooShort W H picture result work ≡ true
+unfolding tooShort short
+work-short W H picture result work less = or-true (short picture (W * H)) _ (or-true (short result (W * H)) _ (lt-ltb work (12 * max W H) less))
+
+short-refused : (other : Bool) (W H : ℕ) (s : Setting) (picture : List ℤ) (result work : ℕ) → badSize W H ≡ false → work < 12 * max W H
+    → judgedOn other W H s picture result work ≡ Refused 2 0 0
+unfolding judgedOn
+short-refused other W H s picture result work size less = rw (size, work-short W H (length picture) result work less) refl
+
+-- ---- the two calls
+module _ {other : Bool} {W H : ℕ} {s : Setting} {M : ℕ} {f : Foretold} {picture result work : List ℤ} {r : Outcome} {result′ work′ : List ℤ}
+    (two : TwoCalls other W H s M f picture result work r result′ work′) where
+  judged : f .verdict ≡ judgedAhead W H s M
+  unfolding forecastOf
+  judged = ap (λ (f : Foretold). f .verdict) (two .forecast)
+
+  module _ (accepted : f .verdict ≡ Accepted) where
+    told : f .figures ≡ figuresOf W H s M
+    unfolding forecastOf
+    told = ap (λ (f : Foretold). f .figures) (two .forecast) ∙ rw (← judged, accepted) refl
+
+    passed : Foreseeable W H s M
+    passed = accepted-ahead W H s M (sym judged ∙ accepted)
+
+    -- the largest size of any sample that goes into a line
+    abbrev size : ℕ
+    size = largestIn (s .border) M
+
+    module _ (done : numberOf r ≡ 0) (each : AllWithin M (W * H) picture) where
+      small : AllWithin size (W * H) picture
+      small i l = le-trans (each i l) (samples-small (s .border) M)
+
+      -- under linear by the range that Q-12 promises
+      by-range : s .kernel ≡ 0 → Bounded (pos size) (W * H) result′
+      by-range linear i l =
+          let range = range-within (s .border) (W * H) picture size (mul-pos (passed .width .0) (passed .height .0)) small (background-small (s .border) M) in
+          let between = two .straightening .no-overshoot (was-accepted other (two .straightening) done) linear i l in
+          (≤ℤ-trans (range .0) (between .0), ≤ℤ-trans (between .1) (range .1))
+
+      -- and under the others by how far three passes reach
+      by-reach : Bounded (pos (boundOf (kernelIn s) size)) (W * H) result′
+      by-reach i l =
+          let reached = straighten-reach (s .border) (kernelIn s) (rowMoves s) (columnMoves s) picture (passed .width .0) (passed .height .0) size
+          (in-range (s .border) M (passed .small) (passed .setting .background)) (background-small (s .border) M) small i l in
+          size-within (line result′ i) (boundOf (kernelIn s) size) (rw (was-straightened other (two .straightening) done i l) (le-trans reached (three-reaches (kernelIn s) size)))
+
+      within : (kernel : ℕ) → s .kernel ≡ kernel → Bounded (pos (boundOf (kernelIn s) size)) (W * H) result′
+      within zero linear = rw (kernel-linear (s .kernel) linear) (by-range linear)
+      within (suc k) e = by-reach
+
+      bounded : Bounded (f .figures .bound) (W * H) result′
+      bounded = rw told (within (s .kernel) refl)
+
+      extremes : Between (negℤ (f .figures .bound)) (f .figures .bound) (smallestOf r) × Between (negℤ (f .figures .bound)) (f .figures .bound) (largestOf r)
+      extremes =
+          let figures = was-told other (two .straightening) done in
+          let some = mul-pos (passed .width .0) (passed .height .0) in
+          let b = f .figures .bound in
+          rw (figures .0, figures .1) (
+            extreme-has _ (Between (negℤ b) b) (line result′) (W * H) _ (smallest-is (line result′) (W * H) some) bounded,
+            extreme-has _ (Between (negℤ b) b) (line result′) (W * H) _ (largest-is (line result′) (W * H) some) bounded,
+          )
+
+    fits : W * H ≤ length picture → W * H ≤ length result → f .figures .work ≤ length work → AllWithin M (W * H) picture → Fit W H s picture (length result) (length work)
+    fits p q w each =
+        record {
+          width = passed .width;
+          height = passed .height;
+          picture-places = p;
+          result-places = q;
+          work-places = omega (arith, ap (λ (g : Figures). g .work) told);
+          setting = passed .setting;
+          samples = λ i l. omega (arith, each i l, passed .small);
+        }
+
+    holds : Holds other W H M f picture result work r result′ work′
+    holds =
+        record {
+          count = λ zero. was-told other (two .straightening) zero .2 ∙ sym (ap (λ (g : Figures). g .count) told);
+          bound = bounded;
+          extremes = extremes;
+          short = λ less.
+              answered-once (rw (short-refused other W H s picture (length result) (length work) (fit-size W H (passed .width) (passed .height)) (omega (arith, ap (λ (g : Figures). g .work) told))) at (two .straightening))
+              (refused-answer (Refused 2 0 0) W H s picture result work 2 0 0 refl);
+          enough = λ single p q w each.
+              two .straightening .number ∙ rw (single, fit-accepted W H s picture (length result) (length work) (fits p q w each)) refl;
+        }
+
+  pub kept : Kept other W H M f picture result work r result′ work′
+  kept =
+      record {
+        holds = λ accepted. holds accepted;
+        none-left-out = λ zero. let fit = was-fit other (two .straightening) zero in judged ∙ only-largest W H s M (fit .width) (fit .height) (fit .setting);
+      }
