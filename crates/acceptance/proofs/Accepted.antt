@@ -24,6 +24,31 @@ use Rattle.moves.specs.Border.{badBackground}
 use Rattle.moves.proofs.Border.{background-good, good-background}
 use Rattle.acceptance.specs.Judge.{range, workPlaces, tooShort, badCentre, badShears, judgedSetting, FitSetting, judgedOn, judged, Fit}
 
+-- ---- the numbers in their order: 1, 2, 14, 3, 4, 5, 12 and 6
+then-later : (three four five twelve : Bool) (later : Verdict)
+    → andThen (refusedIf three 3 (refusedIf four 4 (refusedIf five 5 (refusedIf twelve 12 Accepted)))) later
+    ≡ refusedIf three 3 (refusedIf four 4 (refusedIf five 5 (refusedIf twelve 12 later)))
+then-later true four five twelve later = refl
+then-later false true five twelve later = refl
+then-later false false true twelve later = refl
+then-later false false false true later = refl
+then-later false false false false later = refl
+
+pub in-order : (other : Bool) (W H : ℕ) (s : Setting) (picture : List ℤ) (result work : ℕ)
+    → judgedOn other W H s picture result work
+    ≡ refusedIf (badSize W H) 1
+    (refusedIf (tooShort W H (length picture) result work) 2
+    (refusedIf other 14
+    (refusedIf (badCentre W H s) 3
+    (refusedIf (badShears s) 4
+    (refusedIf (badKernel (s .kernel)) 5
+    (refusedIf (badBackground (s .border)) 12
+    (ofFound (firstBad range W H picture))))))))
+unfolding judgedOn
+in-order other W H s picture result work =
+    ap (λ (v : Verdict). refusedIf (badSize W H) 1 (refusedIf (tooShort W H (length picture) result work) 2 (refusedIf other 14 v)))
+    (then-later (badCentre W H s) (badShears s) (badKernel (s .kernel)) (badBackground (s .border)) (ofFound (firstBad range W H picture)))
+
 -- ---- what each test that failed tells
 pub long-enough : (W H picture result work : ℕ) → tooShort W H picture result work ≡ false → (W * H ≤ picture) × (W * H ≤ result) × (12 * max W H ≤ work)
 unfolding tooShort

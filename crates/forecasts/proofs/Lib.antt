@@ -1,6 +1,7 @@
 -- Laws of forecasts.
---     Examples   forecasts computed, at both ends of every range and one past each
---     Accepted   which forecasts are accepted
---     TwoCalls   a forecast and a straightening of its size and setting
+--     Accepted   which forecasts are accepted: the numbers, computed, and what an accepted one has passed
+--     TwoCalls   a forecast, and a straightening of its size and setting
+--     Examples   bounds, and the figures of small pictures, computed
 pub mod Accepted
 pub mod TwoCalls
+pub mod Examples

@@ -1,11 +1,12 @@
 -- What a forecast and a straightening of its size and setting promise together. Assumes nothing.
-use Prim.Native.Nat.{ℕ, _+_, _*_, _/_, zero, suc, _≤_, _<_, max}
-use mathlib.Core.Path.{_≡_, refl, sym, ap, _∙_, subst}
-use mathlib.Core.Bool.{Bool, true, false, _||_}
+use Prim.Native.Nat.{ℕ, _*_, zero, suc, _≤_, _<_, max}
+use mathlib.Core.Path.{_≡_, refl, sym, ap, _∙_}
+use mathlib.Core.Bool.{Bool, true, false, or-true}
 use mathlib.Core.List.{List}
 use native.Mathlib.Nat.{mul-pos, le-trans}
 use native.Mathlib.Omega.{arith}
 use borrow.Author.Tests.{lt-ltb}
+use lib.Dec.{ltb}
 use lib.IntN.{ℤ, pos, natAbs, negℤ}
 use lib.ListN.{length}
 use Rattle.arith.proofs.Laws.{≤ℤ-trans}
@@ -14,10 +15,9 @@ use Rattle.lists.specs.Line.{line}
 use Rattle.lists.proofs.Ends.{smallest-is, largest-is, extreme-has}
 use Rattle.refusals.specs.declared.Verdict.the-variants.{Accepted, Refused}
 use Rattle.refusals.specs.Tests.{badSize, short, AllWithin}
-use Rattle.refusals.specs.Judging as verdict
 use Rattle.settings.specs.declared.Border.{Border}
 use Rattle.settings.specs.declared.Setting.{Setting}
-use Rattle.kernels.specs.Kernel.{Kernel, Linear, Keys, Spline, kernelOf}
+use Rattle.kernels.specs.Kernel.{Kernel, Linear, Keys, Spline}
 use Rattle.moves.specs.Border.{grey}
 use Rattle.moves.specs.Range.{Between}
 use Rattle.moves.proofs.Range.{range-within, kernel-linear}
@@ -27,19 +27,18 @@ use Rattle.passes.proofs.Reach.{straighten-reach}
 use Rattle.acceptance.specs.Judge.{tooShort, judgedOn, Fit}
 use Rattle.acceptance.proofs.Accepted.{fit-size, fit-accepted}
 use Rattle.pictures.specs.declared.Outcome.{Outcome}
-use Rattle.pictures.specs.declared.Outcome.the-variants as outcome
-use Rattle.pictures.specs.Answer.{numberOf, countOf, smallestOf, largestOf, kernelIn, rowMoves, columnMoves}
+use Rattle.pictures.specs.Answer.{numberOf, smallestOf, largestOf, kernelIn, rowMoves, columnMoves}
 use Rattle.pictures.proofs.Call.{refused-answer, answered-once, was-accepted, was-fit, was-straightened, was-told}
 use Rattle.forecasts.specs.declared.Foretold.{Foretold}
 use Rattle.forecasts.specs.declared.Figures.{Figures}
-use Rattle.forecasts.specs.Figures.{judgedAhead, largestIn, onward, boundOf, figuresOf, forecastOf}
+use Rattle.forecasts.specs.Figures.{judgedAhead, largestIn, boundOf, figuresOf, forecastOf}
 use Rattle.forecasts.specs.TwoCalls.{TwoCalls, Bounded, Holds, Kept}
 use Rattle.forecasts.proofs.Accepted.{Foreseeable, accepted-ahead, only-largest}
 
 -- ---- the bound is what three passes reach
-three-reaches : (κ : Kernel) (M : ℕ) → reach κ (reach κ (reach κ M)) ≤ boundOf κ M
-three-reaches Linear M = omega arith
-three-reaches Keys M = omega arith
+three-reaches : (κ : Kernel) (M : ℕ) → reach κ (reach κ (reach κ M)) ≡ boundOf κ M
+three-reaches Linear M = refl
+three-reaches Keys M = refl
 three-reaches Spline M = omega arith
 
 -- ---- neither a sample within M nor the background is larger
@@ -53,13 +52,9 @@ in-range : (β : Border) (M : ℕ) → M ≤ 32767 → natAbs (grey β) ≤ 3276
 in-range β M few plain = omega arith
 
 -- ---- the work is what number 2 asks for
-or-true : (a b : Bool) → b ≡ true → (a || b) ≡ true
-or-true true b e = refl
-or-true false b e = e
-
 work-short : (W H picture result work : ℕ) → work < 12 * max W H → tooShort W H picture result work ≡ true
 unfolding tooShort short
-work-short W H picture result work less = or-true (short picture (W * H)) _ (or-true (short result (W * H)) _ (lt-ltb work (12 * max W H) less))
+work-short W H picture result work less = rw (lt-ltb work (12 * max W H) less, or-true (ltb result (W * H))) (or-true (ltb picture (W * H)))
 
 short-refused : (other : Bool) (W H : ℕ) (s : Setting) (picture : List ℤ) (result work : ℕ) → badSize W H ≡ false → work < 12 * max W H
     → judgedOn other W H s picture result work ≡ Refused 2 0 0
@@ -101,7 +96,7 @@ module _ {other : Bool} {W H : ℕ} {s : Setting} {M : ℕ} {f : Foretold} {pict
       by-reach i l =
           let reached = straighten-reach (s .border) (kernelIn s) (rowMoves s) (columnMoves s) picture (passed .width .0) (passed .height .0) size
           (in-range (s .border) M (passed .small) (passed .setting .background)) (background-small (s .border) M) small i l in
-          size-within (line result′ i) (boundOf (kernelIn s) size) (rw (was-straightened other (two .straightening) done i l) (le-trans reached (three-reaches (kernelIn s) size)))
+          size-within (line result′ i) (boundOf (kernelIn s) size) (rw (was-straightened other (two .straightening) done i l, ← three-reaches (kernelIn s) size) reached)
 
       within : (kernel : ℕ) → s .kernel ≡ kernel → Bounded (pos (boundOf (kernelIn s) size)) (W * H) result′
       within zero linear = rw (kernel-linear (s .kernel) linear) (by-range linear)
@@ -120,8 +115,8 @@ module _ {other : Bool} {W H : ℕ} {s : Setting} {M : ℕ} {f : Foretold} {pict
             extreme-has _ (Between (negℤ b) b) (line result′) (W * H) _ (largest-is (line result′) (W * H) some) bounded,
           )
 
-    fits : W * H ≤ length picture → W * H ≤ length result → f .figures .work ≤ length work → AllWithin M (W * H) picture → Fit W H s picture (length result) (length work)
-    fits p q w each =
+    fits : W * H ≤ length picture → W * H ≤ length result → f .figures .work ≤ length work → AllWithin 32767 (W * H) picture → Fit W H s picture (length result) (length work)
+    fits p q w small =
         record {
           width = passed .width;
           height = passed .height;
@@ -129,20 +124,20 @@ module _ {other : Bool} {W H : ℕ} {s : Setting} {M : ℕ} {f : Foretold} {pict
           result-places = q;
           work-places = omega (arith, ap (λ (g : Figures). g .work) told);
           setting = passed .setting;
-          samples = λ i l. omega (arith, each i l, passed .small);
+          samples = small;
         }
 
     holds : Holds other W H M f picture result work r result′ work′
     holds =
         record {
-          count = λ zero. was-told other (two .straightening) zero .2 ∙ sym (ap (λ (g : Figures). g .count) told);
+          count = λ done. rw told (was-told other (two .straightening) done .2);
           bound = bounded;
           extremes = extremes;
           short = λ less.
               answered-once (rw (short-refused other W H s picture (length result) (length work) (fit-size W H (passed .width) (passed .height)) (omega (arith, ap (λ (g : Figures). g .work) told))) at (two .straightening))
               (refused-answer (Refused 2 0 0) W H s picture result work 2 0 0 refl);
           enough = λ single p q w each.
-              two .straightening .number ∙ rw (single, fit-accepted W H s picture (length result) (length work) (fits p q w each)) refl;
+              two .straightening .number ∙ rw (single, fit-accepted W H s picture (length result) (length work) (fits p q w (λ i l. omega (arith, each i l, passed .small)))) refl;
         }
 
   pub kept : Kept other W H M f picture result work r result′ work′

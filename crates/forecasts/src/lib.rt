@@ -90,17 +90,17 @@ fn keys_onward(size: u32) -> u32
 }
 
 // How far three passes take samples of at most this size.
-fn bound_of(kernel: u32, size: u32) -> u32
-    requires { ⌜ (kernel ≤ 2) × (size ≤ 32767) ⌝ }
-    ensures { λ r. ⌜ (r ≡ boundOf (kernelOf kernel) size) × (r ≤ 884709) ⌝ }
+fn bound_of(kernel: u32, largest: u32) -> u32
+    requires { ⌜ (kernel ≤ 2) × (largest ≤ 32767) ⌝ }
+    ensures { λ r. ⌜ (r ≡ boundOf (kernelOf kernel) largest) × (r ≤ 884709) ⌝ }
 {
     if kernel == 0 {
-        return size;
+        return largest;
     }
     if kernel == 1 {
-        return keys_onward(keys_onward(keys_onward(size)));
+        return keys_onward(keys_onward(keys_onward(largest)));
     }
-    27 * size
+    27 * largest
 }
 
 // The figures of a forecast that is accepted.
