@@ -17,7 +17,7 @@ use Rattle.refusals.specs.declared.Verdict.the-variants.{Accepted, Refused}
 use Rattle.refusals.specs.Tests.{badSide, badSize, short, badKernel, beyondOf, firstBad}
 use Rattle.refusals.specs.Judging.{refusedIf, ofFound, andThen, numberOf, rowOf, columnOf}
 use Rattle.refusals.proofs.Tests.{or-false, size-good, short-good, kernel-good, beyond-good, good-beyond}
-use Rattle.refusals.proofs.Judging.{refusedIf-accepted, ofFound-accepted, andThen-accepted, AcceptedByZero, by-zero-if, by-zero-found}
+use Rattle.refusals.proofs.Judging.{refusedIf-accepted, ofFound-accepted, andThen-accepted, AcceptedByZero, by-zero-if, by-zero-then, by-zero-found}
 use Rattle.refusals.proofs.First.{nothing-bad, BadAt, first-bad}
 use Rattle.settings.specs.declared.Setting.{Setting}
 use Rattle.moves.specs.Border.{badBackground}
@@ -143,9 +143,8 @@ zero-then : (v later : Verdict) → Unread v → ZeroButSix later → ZeroButSix
 zero-then Accepted later u z = z
 zero-then (Refused number row column) later u z = u .nowhere
 
-by-zero-then : (v later : Verdict) → Unread v → AcceptedByZero later → AcceptedByZero (andThen v later)
-by-zero-then Accepted later u z = z
-by-zero-then (Refused number row column) later u z = u .some-number
+pub setting-by-zero : (W H : ℕ) (s : Setting) → AcceptedByZero (judgedSetting W H s)
+setting-by-zero W H s = setting-unread W H s .some-number
 
 -- ---- the whole chain
 module _ (W H : ℕ) (s : Setting) (picture : List ℤ) (result work : ℕ) where
@@ -225,4 +224,4 @@ module _ (other : Bool) (W H : ℕ) (s : Setting) (picture : List ℤ) (result w
   unfolding judgedOn
   zero-accepted =
       by-zero-if (badSize W H) 1 _ (λ e. omega arith) (by-zero-if (tooShort W H (length picture) result work) 2 _ (λ e. omega arith)
-      (by-zero-if other 14 _ (λ e. omega arith) (by-zero-then (judgedSetting W H s) _ (setting-unread W H s) (by-zero-found (firstBad range W H picture)))))
+      (by-zero-if other 14 _ (λ e. omega arith) (by-zero-then (judgedSetting W H s) _ (setting-by-zero W H s) (by-zero-found (firstBad range W H picture)))))

@@ -3,6 +3,7 @@
 ghost use mathlib.Core.Path.{_≡_};
 ghost use Rattle.pictures.specs.Answer.{Answer as PictureStraightened};
 ghost use Rattle.tickets.specs.Ticket.{Asking, Committed};
+ghost use Rattle.forecasts.specs.Figures.{forecastOf};
 ghost use Rattle.lines.specs.Answer.{LineMoved};
 ghost use Rattle.lines.specs.Answer as line;
 ghost use Rattle.acceptance.specs.Judge.{workPlaces};
@@ -12,12 +13,13 @@ ghost use Rattle.levelling.specs.Level.{LevelAnswer};
 ghost use Rattle.readings.specs.Sample.{greyOf};
 ghost use Rattle.readings.specs.Answers.{Out, FloatsOut, ReadingAt, SummaryOf};
 ghost use Rattle.format.specs.Answered.{LineAnswered};
-ghost use Rattle.flat.specs.Exported.{Exported, borderOf, settingOf, laidAs, ofChange, ofVerdict, ofOutcome, ofLine, ofSine, ofLevelled, ofReading, ofSummary, ofWritten, ticketOf, ofAsked};
+ghost use Rattle.flat.specs.Exported.{Exported, borderOf, settingOf, laidAs, ofChange, ofVerdict, ofOutcome, ofLine, ofSine, ofLevelled, ofReading, ofSummary, ofWritten, ticketOf, ofAsked, ofForecast};
 use flat::Answer;
 use flat::FlatAsked;
 use flat::FlatChange;
 use flat::FlatSetting;
 use flat::FlatTicket;
+use flat::ForecastAnswer;
 use flat::LineAnswer;
 use flat::ReadingAnswer;
 use flat::Step;
@@ -90,6 +92,19 @@ pub extern "C" fn straightener_commit(
         result,
         work,
     ))
+}
+
+// Tells what a straightening takes and can leave, before there is a picture.
+#[no_mangle]
+pub extern "C" fn straightener_forecast(
+    width: usize,
+    height: usize,
+    setting: FlatSetting,
+    largest: u32,
+) -> ForecastAnswer
+    ensures { λ r. ⌜ r ≡ ofForecast (forecastOf width height (settingOf setting) largest) ⌝ }
+{
+    flat::of_forecast(forecasts::forecast(width, height, flat::setting_of(setting), largest))
 }
 
 // Moves one line.

@@ -26,10 +26,12 @@ use Rattle.format.specs.declared.Written.{Written}
 use Rattle.format.specs.Answered.{writtenNumber, writtenBytes}
 use Rattle.tickets.specs.declared.Ticket.{Ticket}
 use Rattle.tickets.specs.declared.Asked.{Asked}
+use Rattle.forecasts.specs.declared.Foretold.{Foretold}
 use Rattle.flat.specs.declared.FlatSetting.{FlatSetting}
 use Rattle.flat.specs.declared.FlatChange.{FlatChange}
 use Rattle.flat.specs.declared.FlatTicket.{FlatTicket}
 use Rattle.flat.specs.declared.FlatAsked.{FlatAsked}
+use Rattle.flat.specs.declared.ForecastAnswer.{ForecastAnswer}
 use Rattle.flat.specs.declared.Answer.{Answer}
 use Rattle.flat.specs.declared.Step.{Step}
 use Rattle.flat.specs.declared.ReadingAnswer.{ReadingAnswer}
@@ -63,6 +65,19 @@ ofAsked s a =
       row = verdict.rowOf v;
       column = verdict.columnOf v;
       ticket = record { width = a .ticket .width; height = a .ticket .height; setting = s; count = a .ticket .count };
+    }
+
+-- what a forecast answers
+abbrev pub ofForecast : Foretold → ForecastAnswer
+ofForecast f =
+    let v = f .verdict in
+    record {
+      number = verdict.numberOf v;
+      row = verdict.rowOf v;
+      column = verdict.columnOf v;
+      work = f .figures .work;
+      count = f .figures .count;
+      bound = f .figures .bound;
     }
 
 -- a verdict alone interpolates no line and moves no sample

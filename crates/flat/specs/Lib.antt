@@ -1,5 +1,7 @@
 -- Settings and answers as C and Rust hold them.
 --     Exported   answers laid out as structs, and what an exported call says
 --     Range      linear's range, and a number added to all samples, by these structs
+--     Ahead      what a forecast promises of a straightening, by these structs
 pub mod Exported
 pub mod Range
+pub mod Ahead

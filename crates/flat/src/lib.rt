@@ -2,7 +2,8 @@
 // out flat. include/straightener.h says what each field means.
 ghost use mathlib.Core.Path.{_≡_};
 ghost use lib.IntN.{pos};
-ghost use Rattle.flat.specs.Exported.{borderOf, settingOf, laidAs, ofChange, ofVerdict, ofOutcome, ofLine, ofSine, ofLevelled, kindOf, greysOf, ofReading, ofSummary, ofWritten, ticketOf, ofAsked};
+ghost use Rattle.flat.specs.Exported.{borderOf, settingOf, laidAs, ofChange, ofVerdict, ofOutcome, ofLine, ofSine, ofLevelled, kindOf, greysOf, ofReading, ofSummary, ofWritten, ticketOf, ofAsked, ofForecast};
+use forecasts::Foretold;
 use format::Written;
 use levelling::Levelled;
 use lines::LineOutcome;
@@ -64,6 +65,18 @@ pub struct FlatAsked {
     pub row: usize,
     pub column: usize,
     pub ticket: FlatTicket,
+}
+
+// What a forecast answers: 0 or the refusal number, a row and a column of 0, and the work places, the lines interpolated and the bound on every sample
+// of a straightening, all 0 where it was refused.
+#[repr(C)]
+pub struct ForecastAnswer {
+    pub number: u32,
+    pub row: usize,
+    pub column: usize,
+    pub work: usize,
+    pub count: u32,
+    pub bound: i32,
 }
 
 // 0 and a step or a shear, or the refusal number and 0.
@@ -246,6 +259,22 @@ pub fn of_asked(setting: FlatSetting, asked: Asked) -> FlatAsked
         row: judged.row,
         column: judged.column,
         ticket,
+    }
+}
+
+pub fn of_forecast(told: Foretold) -> ForecastAnswer
+    ensures { λ r. ⌜ r ≡ ofForecast told ⌝ }
+{
+    let verdict = told.verdict;
+    let judged = of_verdict(verdict);
+    let figures = told.figures;
+    ForecastAnswer {
+        number: judged.number,
+        row: judged.row,
+        column: judged.column,
+        work: figures.work,
+        count: figures.count,
+        bound: figures.bound,
     }
 }
 

@@ -12,13 +12,13 @@ use Rattle.refusals.specs.declared.Verdict.the-variants.{Accepted, Refused}
 use Rattle.refusals.specs.Tests.{badSide, badSize, badKernel, beyondOf}
 use Rattle.refusals.specs.Judging.{refusedIf}
 use Rattle.refusals.proofs.Tests.{size-good}
-use Rattle.refusals.proofs.Judging.{refusedIf-accepted, andThen-accepted}
+use Rattle.refusals.proofs.Judging.{refusedIf-accepted, andThen-accepted, AcceptedByZero, by-zero-if, by-zero-then}
 use Rattle.settings.specs.declared.Border.the-variants.{Wrapped, Background}
 use Rattle.settings.specs.declared.Setting.{Setting}
 use Rattle.settings.specs.Setting.{withKernel, withCentre, withShears, withBorder}
 use Rattle.moves.specs.Border.{badBackground}
 use Rattle.acceptance.specs.Judge.{badCentre, badShears, range, judgedSetting, FitSetting}
-use Rattle.acceptance.proofs.Accepted.{fit-size, setting-accepted, accepted-setting}
+use Rattle.acceptance.proofs.Accepted.{fit-size, setting-accepted, accepted-setting, setting-by-zero}
 use Rattle.forecasts.specs.Figures.{judgedAhead}
 
 abbrev still : Setting
@@ -94,12 +94,18 @@ unfolding judgedAhead
 accepted-ahead W H s M e =
     let one = refusedIf-accepted (badSize W H) 1 _ e in
     let setting = andThen-accepted (judgedSetting W H s) _ (one .1) in
-    let six = refusedIf-accepted _ 6 _ (setting .1) in
+    let six = refusedIf-accepted (ltb range M) 6 _ (setting .1) in
     let size = size-good (one .0) in
-    record { width = size .0; height = size .1; setting = accepted-setting W H s (setting .0); small = omega (arith, ltb-false _ M (six .0)) }
+    record { width = size .0; height = size .1; setting = accepted-setting W H s (setting .0); small = ltb-false range M (six .0) }
 
 -- past the size and the setting M alone is judged
 pub only-largest : (W H : ℕ) (s : Setting) (M : ℕ) → (1 ≤ W) × (W ≤ 1024) → (1 ≤ H) × (H ≤ 1024) → FitSetting W H s
     → judgedAhead W H s M ≡ refusedIf (ltb range M) 6 Accepted
 unfolding judgedAhead
 only-largest W H s M width height setting = rw (fit-size W H width height, setting-accepted setting) refl
+
+-- no number is 0, so that 0 says that the forecast is accepted
+pub zero-ahead : (W H : ℕ) (s : Setting) (M : ℕ) → AcceptedByZero (judgedAhead W H s M)
+unfolding judgedAhead
+zero-ahead W H s M =
+    by-zero-if (badSize W H) 1 _ (λ e. omega arith) (by-zero-then (judgedSetting W H s) _ (setting-by-zero W H s) (by-zero-if (ltb range M) 6 _ (λ e. omega arith) (λ e. refl)))

@@ -34,3 +34,7 @@ by-zero-if false number later some z e = z e
 pub by-zero-found : (f : Found) → AcceptedByZero (ofFound f)
 by-zero-found Nothing e = refl
 by-zero-found (At row column) e = absurd (omega arith)
+
+pub by-zero-then : (v later : Verdict) → AcceptedByZero v → AcceptedByZero later → AcceptedByZero (andThen v later)
+by-zero-then Accepted later some z = z
+by-zero-then (Refused number row column) later some z = some
