@@ -13,10 +13,11 @@ use Rattle.steps.specs.declared.StepSine.the-variants as sine
 use Rattle.levelling.specs.declared.Levelled.the-variants as level
 use Rattle.format.specs.declared.Written.the-variants as written
 use Rattle.tickets.specs.declared.Ticket.{Ticket}
+use Rattle.forecasts.specs.declared.Figures.{Figures}
 use Rattle.readings.specs.declared.Reading.{Reading}
 use Rattle.readings.specs.declared.Reading.the-variants.{Level, Under, Over}
 use Rattle.flat.specs.declared.FlatSetting.{FlatSetting}
-use Rattle.flat.specs.Exported.{ofVerdict, ofAsked, ofOutcome, ofLine, ofSine, ofLevelled, kindOf, greysOf, ofReading, ofSummary, ofWritten}
+use Rattle.flat.specs.Exported.{ofVerdict, ofAsked, ofForecast, ofOutcome, ofLine, ofSine, ofLevelled, kindOf, greysOf, ofReading, ofSummary, ofWritten}
 
 -- ---- refused under a number, with a row and a column: these three, and every other figure 0
 module _ (n y x : ℕ) where
@@ -31,6 +32,12 @@ module _ (n y x : ℕ) where
       → ofAsked s (record { verdict = verdict.Refused n y x; ticket = t })
       ≡ record { number = n; row = y; column = x; ticket = record { width = t .width; height = t .height; setting = s; count = t .count } }
   refused-asked s t = refl
+
+  -- with the figures that it tells
+  pub refused-forecast : (f : Figures)
+      → ofForecast (record { verdict = verdict.Refused n y x; figures = f })
+      ≡ record { number = n; row = y; column = x; work = f .work; count = f .count; bound = f .bound }
+  refused-forecast f = refl
 
   pub refused-line : ofLine (line.Refused n y x) ≡ record { number = n; row = y; column = x; count = 0; smallest = pos 0; largest = pos 0 }
   refused-line = refl
@@ -62,6 +69,11 @@ pub accepted-asked : (s : FlatSetting) (t : Ticket)
     → ofAsked s (record { verdict = verdict.Accepted; ticket = t })
     ≡ record { number = 0; row = 0; column = 0; ticket = record { width = t .width; height = t .height; setting = s; count = t .count } }
 accepted-asked s t = refl
+
+pub accepted-forecast : (f : Figures)
+    → ofForecast (record { verdict = verdict.Accepted; figures = f })
+    ≡ record { number = 0; row = 0; column = 0; work = f .work; count = f .count; bound = f .bound }
+accepted-forecast f = refl
 
 -- with the extremes of what was written
 pub accepted-picture : (lines : ℕ) (extremes : Extremes)
