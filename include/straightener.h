@@ -10,7 +10,7 @@
  *
  *     cc program.c $(pkg-config --cflags --libs straightener)
  *
- * Straightening     straightener_straighten, straightener_ask, straightener_commit,
+ * Straightening     straightener_straighten, straightener_ask, straightener_commit, straightener_forecast,
  *                   straightener_work_places, straightener_move_line, straightener_line_work_places
  * Settings, steps   straightener_with_kernel, straightener_with_centre, straightener_with_shears,
  *                   straightener_with_border, straightener_with_step, straightener_sine,
@@ -43,10 +43,10 @@
 #include <stdint.h>
 
 /* The version of this header, as text and as its parts. */
-#define STRAIGHTENER_VERSION "0.5.2"
+#define STRAIGHTENER_VERSION "0.6.0"
 #define STRAIGHTENER_VERSION_MAJOR 0
-#define STRAIGHTENER_VERSION_MINOR 5
-#define STRAIGHTENER_VERSION_PATCH 2
+#define STRAIGHTENER_VERSION_MINOR 6
+#define STRAIGHTENER_VERSION_PATCH 0
 
 #ifdef __cplusplus
 extern "C" {
@@ -91,8 +91,8 @@ static inline const char *straightener_words(uint32_t number)
     case STRAIGHTENER_REFUSED_KERNEL:
         return "the kernel must be 0 (linear), 1 (Keys) or 2 (cubic spline)";
     case STRAIGHTENER_REFUSED_SAMPLE:
-        return "a sample lies beyond its range, which is 32,767 units to either side of 0 for straightening, "
-               "294,912 for a single line and 1,048,576 for readings";
+        return "a sample, or the largest sample size given for a forecast, lies beyond its range, which is 32,767 "
+               "units to either side of 0 for straightening, 294,912 for a single line and 1,048,576 for readings";
     case STRAIGHTENER_REFUSED_POINT:
         return "the point lies outside the picture; for levelling, coordinates must be from 0 to 1,023";
     case STRAIGHTENER_REFUSED_SLOPE:
@@ -186,6 +186,23 @@ typedef struct {
     size_t column;
     straightener_ticket ticket;
 } straightener_asked;
+
+/*
+ * What every straightening of one size and setting takes and can leave.
+ *   number       0, or the refusal number
+ *   row, column  0, also under number 6: a forecast reads no sample
+ *   work         the places of work that it takes; 0 where refused
+ *   count        the number of lines that it interpolates; 0 where refused
+ *   bound        no sample of its result is below -bound or above bound; 0 where refused
+ */
+typedef struct {
+    uint32_t number;
+    size_t row;
+    size_t column;
+    size_t work;
+    uint32_t count;
+    int32_t bound;
+} straightener_forecast_answer;
 
 /* A changed setting under number 0, or the setting as it was under number 4. */
 typedef struct {
@@ -291,6 +308,24 @@ straightener_answer straightener_commit(straightener_ticket ticket, size_t width
                                         const int32_t *picture, size_t picture_len,
                                         int32_t *result, size_t result_len,
                                         int32_t *work, size_t work_len);
+
+/*
+ * Tells what every straightening of one size and setting takes and can leave, before there is a picture: for
+ * programs that hand out memory and time.
+ *   width, height  1 to 1,024
+ *   setting        as for straightener_straighten
+ *   largest        the largest size of a sample: those of the picture will lie from -largest to largest; at
+ *                  most 32,767
+ * Refuses under 1, 3, 4, 5, 12, 6, where 6 is a largest over 32,767. The bound is largest with kernel 0, 27
+ * times largest with kernel 2, and with kernel 1 three times over (5 * largest + 2) / 4, rounded down. Where
+ * the background is further from 0 than largest, its distance stands in the place of largest.
+ * Every straightener_straighten and straightener_commit with that size and setting that is accepted answers
+ * just that count; of a picture whose samples lie from -largest to largest it leaves no sample, and tells no
+ * smallest or largest, below -bound or above bound. With one place of work less than that it is refused under
+ * 2; with just that work such a picture is straightened, if its buffers have their places.
+ */
+straightener_forecast_answer straightener_forecast(size_t width, size_t height,
+                                                   straightener_setting setting, uint32_t largest);
 
 /*
  * The places of work that straightener_straighten takes, and so straightener_ask and straightener_commit:

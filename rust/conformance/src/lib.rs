@@ -16,7 +16,7 @@ pub mod tables;
 use calls::LineCall;
 #[cfg(feature = "library")]
 pub use library::{raw_setting, Library};
-use reference::second::{Border, Setting, Ticket};
+use reference::second::{Border, Forecast, Setting, Ticket};
 pub use second::Second;
 
 /// What the document says of an answer: number, row, column and count.
@@ -88,6 +88,8 @@ pub trait Implementation {
         result: &mut [i32],
         work: &mut [i32],
     ) -> (Answer, Extremes);
+    /// The answer, whose count is 0, and the figures.
+    fn forecast(&self, size: (usize, usize), setting: Setting, largest: u32) -> (Answer, Forecast);
     fn move_line(&self, call: &LineCall, result: &mut [i32], work: &mut [i32]) -> (Answer, Extremes);
     fn work_places(&self, size: (usize, usize)) -> usize;
     fn line_work_places(&self, n: usize) -> usize;

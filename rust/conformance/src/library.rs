@@ -2,7 +2,7 @@
 
 use crate::calls::LineCall;
 use crate::{Answer, Extremes, Implementation};
-use reference::second::{Border, Setting, Ticket};
+use reference::second::{Border, Forecast, Setting, Ticket};
 use straightener::raw;
 
 /// The proved library.
@@ -80,6 +80,17 @@ impl Implementation for Library {
         let setting = raw_setting(ticket.setting);
         let ticket = raw::Ticket { width: ticket.width, height: ticket.height, setting, count: ticket.count };
         moved(raw::commit(ticket, width, height, picture, result, work))
+    }
+
+    fn forecast(
+        &self,
+        (width, height): (usize, usize),
+        setting: Setting,
+        largest: u32,
+    ) -> (Answer, Forecast) {
+        let raw::ForecastAnswer { number, row, column, work, count, bound } =
+            raw::forecast(width, height, raw_setting(setting), largest);
+        (Answer::of(number, row, column, 0), Forecast { work, count, bound })
     }
 
     fn move_line(&self, call: &LineCall, result: &mut [i32], work: &mut [i32]) -> (Answer, Extremes) {

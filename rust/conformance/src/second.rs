@@ -2,7 +2,7 @@
 
 use crate::calls::LineCall;
 use crate::{Answer, Extremes, Implementation};
-use reference::second::{self, Border, Refused, Setting, Ticket, Told};
+use reference::second::{self, Border, Forecast, Refused, Setting, Ticket, Told};
 
 /// The second implementation.
 pub struct Second;
@@ -63,6 +63,16 @@ impl Implementation for Second {
         work: &mut [i32],
     ) -> (Answer, Extremes) {
         moved(second::commit(ticket, width, height, picture, result, work))
+    }
+
+    fn forecast(
+        &self,
+        (width, height): (usize, usize),
+        setting: Setting,
+        largest: u32,
+    ) -> (Answer, Forecast) {
+        let outcome = second::forecast(width, height, setting, largest);
+        (answer(outcome.map(|_| 0)), outcome.unwrap_or_default())
     }
 
     fn move_line(&self, call: &LineCall, result: &mut [i32], work: &mut [i32]) -> (Answer, Extremes) {

@@ -11,7 +11,7 @@ fn in_rust() {
     for row in &table {
         let refusal = Refusal::from_number(row.number, 3, 5).expect("a refusal");
         let (fields, place) = match row.placed {
-            true => (" { row: 3, column: 5 }", "; the first is in row 3, column 5"),
+            true => (" { row: 3, column: 5 }", "; row 3, column 5"),
             false => ("", ""),
         };
         assert_eq!(refusal.number(), row.number);

@@ -27,8 +27,9 @@ fn declared() -> Vec<(String, String)> {
 }
 
 /// The files of the safe layer for Rust.
-fn safe_files() -> [String; 4] {
-    ["calls", "readings", "setting", "tickets"].map(|file| format!("rust/straightener/src/{file}.rs"))
+fn safe_files() -> [String; 5] {
+    ["calls", "forecast", "readings", "setting", "tickets"]
+        .map(|file| format!("rust/straightener/src/{file}.rs"))
 }
 
 /// The names that stand between some words and a bracket in a file.
@@ -201,6 +202,7 @@ fn structs_are_laid_out_alike() {
         layout!(Answer: number row column count smallest largest),
         layout!(Ticket: width height setting count),
         layout!(Asked: number row column ticket),
+        layout!(ForecastAnswer: number row column work count bound),
         layout!(Change: number setting),
         layout!(Step: number value),
         layout!(ReadingAnswer: number row column kind greys),

@@ -4,7 +4,7 @@ use conformance::calls::{untouched_from, LineCall, Outcome, PictureCall};
 use conformance::files::{border, cases, float_bits, fnv, list, number, numbers, value, vectors};
 use conformance::{for_both_implementations, Answer, Extremes, Implementation};
 use reference::exact::{self, Whole};
-use reference::second::{self, Setting, Ticket};
+use reference::second::{self, Forecast, Setting, Ticket};
 
 for_both_implementations!(
     lines,
@@ -17,6 +17,8 @@ for_both_implementations!(
     pictures_in_both_borders,
     tickets,
     asked_and_committed,
+    forecasts,
+    figures_beforehand,
     extremes,
     numbers_added,
     exact_pictures_in_both_borders,
@@ -275,6 +277,28 @@ fn asked_and_committed(implementation: &dyn Implementation) {
         let figure = |key: &str| number::<usize>(value(&answer, key));
         let expected = Answer::of(figure("number") as u32, figure("row"), figure("column"), 0);
         assert_eq!(call.ask(implementation), (expected, ticket(&answer)), "{input:?}");
+    }
+}
+
+fn forecasts(implementation: &dyn Implementation) {
+    for (input, answer) in vectors("forecast.txt", 300) {
+        let size = (number(&input[0]), number(&input[1]));
+        let setting = setting(&input[2..7]).with_border(border(&input[7]));
+        let told = implementation.forecast(size, setting, number(&input[8]));
+        let figures =
+            Forecast { work: number(&answer[1]), count: number(&answer[2]), bound: number(&answer[3]) };
+        assert_eq!(told, (Answer::refused(number(&answer[0])), figures), "{input:?}");
+    }
+}
+
+fn figures_beforehand(implementation: &dyn Implementation) {
+    for (input, answer) in vectors("beforehand.txt", 190) {
+        let told =
+            implementation.forecast(named_size(&input), named_setting(&input), number(value(&input, "M")));
+        let figure = |key: &str| number::<usize>(value(&answer, key));
+        let expected = Answer::of(figure("number") as u32, figure("row"), figure("column"), 0);
+        let (work, count, bound) = (figure("work"), figure("count") as u32, figure("bound") as i32);
+        assert_eq!(told, (expected, Forecast { work, count, bound }), "{input:?}");
     }
 }
 

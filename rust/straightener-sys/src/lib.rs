@@ -126,6 +126,24 @@ pub struct straightener_asked {
     pub ticket: straightener_ticket,
 }
 
+/// What every straightening of one size and setting takes and can leave.
+#[repr(C)]
+#[derive(Clone, Copy, Debug, PartialEq, Eq)]
+pub struct straightener_forecast_answer {
+    /// 0, or the refusal number.
+    pub number: u32,
+    /// 0.
+    pub row: usize,
+    /// 0.
+    pub column: usize,
+    /// Places of work, 0 where refused.
+    pub work: usize,
+    /// Lines that will be interpolated, 0 where refused.
+    pub count: u32,
+    /// Every sample of the result lies from -bound to bound; 0 where refused.
+    pub bound: i32,
+}
+
 /// A changed setting, or the setting as it was under number 4.
 #[repr(C)]
 #[derive(Clone, Copy, Debug, PartialEq, Eq)]
@@ -213,6 +231,11 @@ extern "C" {
         result: *mut i32, result_len: usize,
         work: *mut i32, work_len: usize,
     ) -> straightener_answer;
+
+    /// Tells what a straightening takes and can leave, before there is a picture.
+    pub fn straightener_forecast(
+        width: usize, height: usize, setting: straightener_setting, largest: u32,
+    ) -> straightener_forecast_answer;
 
     /// Moves one line.
     pub fn straightener_move_line(

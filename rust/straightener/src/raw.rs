@@ -8,9 +8,10 @@ use straightener_sys as sys;
 
 pub use straightener_sys::{
     straightener_answer as Answer, straightener_asked as Asked, straightener_change as Change,
-    straightener_line_answer as LineAnswer, straightener_reading_answer as ReadingAnswer,
-    straightener_setting as Setting, straightener_step as Step, straightener_summary_answer as SummaryAnswer,
-    straightener_ticket as Ticket, STRAIGHTENER_LONGEST_ANSWER as LONGEST_ANSWER,
+    straightener_forecast_answer as ForecastAnswer, straightener_line_answer as LineAnswer,
+    straightener_reading_answer as ReadingAnswer, straightener_setting as Setting, straightener_step as Step,
+    straightener_summary_answer as SummaryAnswer, straightener_ticket as Ticket,
+    STRAIGHTENER_LONGEST_ANSWER as LONGEST_ANSWER,
 };
 
 // Each call below hands over slices whole: they are valid for their lengths and, being borrowed, do not
@@ -99,6 +100,12 @@ pub fn commit(
             work_len,
         )
     }
+}
+
+/// Tells what a straightening takes and can leave, before there is a picture.
+pub fn forecast(width: usize, height: usize, setting: Setting, largest: u32) -> ForecastAnswer {
+    // SAFETY: plain values.
+    unsafe { sys::straightener_forecast(width, height, setting, largest) }
 }
 
 /// Moves one line.

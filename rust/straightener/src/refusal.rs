@@ -75,7 +75,7 @@ macro_rules! refusals {
                 match self {
                     $(Refusal::$name => f.write_str($words),)*
                     $(Refusal::$placed { row, column } => {
-                        write!(f, "{}; the first is in row {row}, column {column}", $placed_words)
+                        write!(f, "{}; row {row}, column {column}", $placed_words)
                     })*
                     Refusal::Unknown { number, row, column } => {
                         write!(f, "number {number}, which this version has no words for; ")?;
@@ -127,8 +127,8 @@ refusals! {
 
     with_a_place:
         6 Sample STRAIGHTENER_REFUSED_SAMPLE
-        "a sample lies beyond its range, which is 32,767 units to either side of 0 for straightening, \
-         294,912 for a single line and 1,048,576 for readings"
+        "a sample, or the largest sample size given for a forecast, lies beyond its range, which is 32,767 \
+         units to either side of 0 for straightening, 294,912 for a single line and 1,048,576 for readings"
 }
 
 impl Error for Refusal {}

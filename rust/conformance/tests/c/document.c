@@ -210,6 +210,39 @@ static void tickets(void)
     printf("tickets: %u lines asked, %u committed\n", (unsigned)lines, (unsigned)committed.count);
 }
 
+/* Whether a forecast tells just this, with row and column 0. */
+static int tells(straightener_forecast_answer f, uint32_t number, size_t work, uint32_t count, int32_t bound)
+{
+    return f.number == number && f.row == 0 && f.column == 0 && f.work == work && f.count == count && f.bound == bound;
+}
+
+static void forecasts(void)
+{
+    const int32_t picture[6] = {100, -100, 0, 100, -100, 0};
+    straightener_setting s = {STRAIGHTENER_KEYS, 1, 1, 700, -900, STRAIGHTENER_WRAPPED, -32768};
+    straightener_setting grey = straightener_with_border(s, STRAIGHTENER_ON_BACKGROUND, -200);
+    straightener_forecast_answer told = straightener_forecast(3, 2, s, 100);
+    straightener_answer answer;
+    int32_t r[6], work[36];
+    expect(tells(told, STRAIGHTENER_ACCEPTED, 36, 4, 195));
+    expect(tells(straightener_forecast(3, 2, straightener_with_kernel(s, STRAIGHTENER_LINEAR), 100), 0, 36, 4, 100));
+    expect(tells(straightener_forecast(3, 2, straightener_with_kernel(s, STRAIGHTENER_SPLINE), 100), 0, 36, 4, 2700));
+    expect(tells(straightener_forecast(3, 2, grey, 100), 0, 36, 4, 391));
+    expect(tells(straightener_forecast(1024, 1024, straightener_with_centre(s, 0, 0), 32767), 0, 12288, 3069, 63999));
+    expect(tells(straightener_forecast(3, 2, s, 32768), STRAIGHTENER_REFUSED_SAMPLE, 0, 0, 0));
+    expect(tells(straightener_forecast(3, 2, s, UINT32_MAX), STRAIGHTENER_REFUSED_SAMPLE, 0, 0, 0));
+    expect(tells(straightener_forecast(3, 2, straightener_with_border(s, 7, 32768), 32768), 12, 0, 0, 0));
+    expect(tells(straightener_forecast(SIZE_MAX, 2, s, 100), STRAIGHTENER_REFUSED_SIZE, 0, 0, 0));
+    fill(r, 6);
+    fill(work, 36);
+    answer = straightener_straighten(3, 2, s, picture, 6, r, 6, work, told.work - 1);
+    expect(is(answer, STRAIGHTENER_REFUSED_BUFFER, 0, 0, 0) && all(r, 0, 6, UNTOUCHED));
+    answer = straightener_straighten(3, 2, s, picture, 6, r, 6, work, told.work);
+    expect(is(answer, 0, 0, 0, told.count) && answer.smallest >= -told.bound && answer.largest <= told.bound);
+    printf("forecast: %u work places, %u lines, samples from %d to %d\n", (unsigned)told.work, (unsigned)told.count,
+           (int)-told.bound, (int)told.bound);
+}
+
 struct background_example {
     uint32_t kernel;
     int32_t d;
@@ -395,6 +428,7 @@ int main(void)
     pictures();
     added();
     tickets();
+    forecasts();
     on_background();
     refusals();
     settings();

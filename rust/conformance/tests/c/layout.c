@@ -34,6 +34,13 @@ int main(void)
     FIELD(straightener_asked, row);
     FIELD(straightener_asked, column);
     FIELD(straightener_asked, ticket);
+    SIZE("\nForecastAnswer", straightener_forecast_answer);
+    FIELD(straightener_forecast_answer, number);
+    FIELD(straightener_forecast_answer, row);
+    FIELD(straightener_forecast_answer, column);
+    FIELD(straightener_forecast_answer, work);
+    FIELD(straightener_forecast_answer, count);
+    FIELD(straightener_forecast_answer, bound);
     SIZE("\nChange", straightener_change);
     FIELD(straightener_change, number);
     FIELD(straightener_change, setting);

@@ -5,6 +5,7 @@
 //! a remainder for every source place and a division for every sample.
 
 mod border;
+mod forecast;
 mod hexlines;
 mod line;
 mod picture;
@@ -13,6 +14,7 @@ mod steps;
 mod tickets;
 
 pub use border::{interpolated, Border};
+pub use forecast::{forecast, Forecast};
 pub use hexlines::{answer_input, answer_line};
 pub use line::{coefficients, fraction, line_work_places, move_line, rounded, weights};
 pub use picture::{passes, straighten, work_places, Setting};

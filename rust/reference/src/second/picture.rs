@@ -7,7 +7,7 @@ use super::{judge_samples, judge_size, refuse_if, Refused, Told};
 const LARGEST_SHEAR: i32 = 4_096;
 
 /// The largest sample of a picture that is straightened, in units of 1/128 grey.
-const LARGEST_SAMPLE: i32 = 32_767;
+pub(super) const LARGEST_SAMPLE: i32 = 32_767;
 
 /// Kernel, centre, shears and border, as a caller fills them in.
 #[derive(Clone, Copy, Debug, Default, PartialEq, Eq)]
@@ -49,7 +49,7 @@ impl Setting {
 }
 
 /// How far the line at `place` moves, in 4,096ths of a sample.
-fn shift(shear: i32, place: usize, centre: usize) -> i64 {
+pub(super) fn shift(shear: i32, place: usize, centre: usize) -> i64 {
     i64::from(shear) * (place as i64 - centre as i64)
 }
 
@@ -110,6 +110,17 @@ pub(super) fn judge_lent(
     refuse_if(short, 2)
 }
 
+/// Numbers 3, 4, 5 and 12: the setting, on a picture of that size.
+pub(super) fn judge_setting(width: usize, height: usize, setting: Setting) -> Result<(), Refused> {
+    refuse_if(setting.cx >= width || setting.cy >= height, 3)?;
+    refuse_if(
+        [setting.a, setting.b].iter().any(|shear| !(-LARGEST_SHEAR..=LARGEST_SHEAR).contains(shear)),
+        4,
+    )?;
+    refuse_if(setting.kernel > 2, 5)?;
+    judge_border(setting.border)
+}
+
 /// Straightens `picture` into the first width times height places of `result`, sets the first
 /// 12 times max(width, height) places of `work` to 0, and tells the number of lines interpolated and the
 /// smallest and the largest sample over the rows of pass 3.
@@ -123,13 +134,7 @@ pub fn straighten(
 ) -> Result<Told, Refused> {
     judge_lent(width, height, picture, result, work)?;
     let (places, work_places) = (width * height, work_places(width, height));
-    refuse_if(setting.cx >= width || setting.cy >= height, 3)?;
-    refuse_if(
-        [setting.a, setting.b].iter().any(|shear| !(-LARGEST_SHEAR..=LARGEST_SHEAR).contains(shear)),
-        4,
-    )?;
-    refuse_if(setting.kernel > 2, 5)?;
-    judge_border(setting.border)?;
+    judge_setting(width, height, setting)?;
     judge_samples(width, height, picture, LARGEST_SAMPLE)?;
     result[..places].copy_from_slice(&picture[..places]);
     work[..work_places].fill(0);
