@@ -7,7 +7,9 @@ use conformance::install::{flags, make};
 use conformance::tables::{order, table};
 use std::fs;
 use std::process::Command;
-use straightener::{ask, commit, move_line, Border, Kernel, Reading, Refusal, Setting, BLACK, WHITE};
+use straightener::{
+    ask, commit, forecast, move_line, Border, Kernel, Reading, Refusal, Setting, BLACK, WHITE,
+};
 
 /// The programs in a language that a text shows.
 fn programs<'a>(text: &'a str, language: &str) -> Vec<&'a str> {
@@ -24,7 +26,7 @@ fn line<'a>(text: &'a str, begin: &str) -> &'a str {
 fn the_c_programs_by_their_link_lines() {
     let (readme, folder) = (read("README.md"), Temporary::new("readme-c"));
     done(&mut make("install", &folder.path("")));
-    let (names, shown) = (["program", "ask"], programs(&readme, "c"));
+    let (names, shown) = (["program", "ask", "forecast"], programs(&readme, "c"));
     assert_eq!(shown.len(), names.len(), "a program of README has no name here");
     for (name, program) in names.into_iter().zip(shown) {
         fs::write(folder.path(&format!("{name}.c")), program).expect("the program can be written");
@@ -129,6 +131,23 @@ fn a_number_added_to_all_samples() {
             let (mut result, mut work) = (vec![0; line.len()], vec![0; 6 * line.len()]);
             move_line(kernel, -2_048, Border::Wrapped, &line, &mut result, &mut work).expect("a move");
             assert_eq!(result, samples(cell), "{kernel:?} of {line:?}");
+        }
+    }
+}
+
+/// README's bounds of forecasts, by the largest size of a sample.
+#[test]
+fn the_bounds_of_forecasts() {
+    let rows = table("README.md", "Samples up to");
+    assert_eq!(rows.len(), 2);
+    let number = |cell: &str| -> u32 {
+        cell.split(", ").next().expect("a number").replace(',', "").parse().expect("digits")
+    };
+    for row in &rows {
+        for (kernel, cell) in [Kernel::Linear, Kernel::Keys, Kernel::Spline].into_iter().zip(&row[1..]) {
+            let told =
+                forecast(3, 2, Setting::new().with_kernel(kernel), number(&row[0])).expect("a forecast");
+            assert_eq!(told.bound as u32, number(cell), "{kernel:?} of {}", row[0]);
         }
     }
 }

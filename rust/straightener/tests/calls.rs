@@ -2,8 +2,8 @@
 
 use std::collections::HashSet;
 use straightener::{
-    answer_line, ask, commit, floats_out, greys_out, level, line_work_places, move_line, raw, reading, sine,
-    straighten, straightened, summary, work_places, Border, Kernel, Refusal, Setting, Ticket,
+    answer_line, ask, commit, floats_out, forecast, greys_out, level, line_work_places, move_line, raw,
+    reading, sine, straighten, straightened, summary, work_places, Border, Kernel, Refusal, Setting, Ticket,
 };
 
 #[test]
@@ -50,6 +50,35 @@ fn every_change_keeps_the_border() {
         assert_eq!(setting.with_border(Border::Wrapped), plain);
     }
     assert_eq!(Border::default(), Border::Wrapped);
+}
+
+#[test]
+fn a_forecast_and_a_straightening_that_keeps_to_it() {
+    let setting = Setting::new().with_kernel(Kernel::Keys).with_centre(1, 1).with_shears(700, -900);
+    let told = forecast(3, 2, setting, 100).expect("a forecast");
+    assert_eq!((told.work_places, told.count, told.bound), (work_places(3, 2), 4, 195));
+    let (picture, mut result) = ([100, -100, 0, 100, -100, 0], [7; 6]);
+    let mut work = vec![7; told.work_places];
+    let less = straighten(3, 2, setting, &picture, &mut result, &mut work[1..]);
+    assert_eq!((less, result), (Err(Refusal::Buffer), [7; 6]));
+    let done = straighten(3, 2, setting, &picture, &mut result, &mut work).expect("a straightening");
+    assert_eq!(done.count, told.count);
+    assert!(result.iter().all(|sample| (-told.bound..=told.bound).contains(sample)));
+}
+
+#[test]
+fn a_refused_forecast() {
+    let setting = Setting::new().with_centre(1, 1);
+    let refusal = |width, setting, largest| forecast(width, 2, setting, largest).expect_err("a refusal");
+    assert_eq!(refusal(0, setting, 0), Refusal::Size);
+    assert_eq!(refusal(usize::MAX, setting, 0), Refusal::Size);
+    assert_eq!(refusal(1, setting, 0), Refusal::Centre);
+    assert_eq!(refusal(2, setting.with_shears(0, 4_097), 0), Refusal::Shear);
+    let border = Border::Background(i32::MIN);
+    assert_eq!(refusal(2, setting.with_border(border), u32::MAX), Refusal::Background);
+    let too_large = refusal(2, setting, 32_768);
+    assert_eq!(too_large, Refusal::Sample { row: 0, column: 0 });
+    assert!(too_large.to_string().contains("the largest sample size given for a forecast"), "{too_large}");
 }
 
 #[test]
