@@ -41,9 +41,10 @@ pub struct Forecast {
 /// let told = forecast(640, 480, setting, 32_640)?;
 /// assert_eq!((told.work_places, told.count, told.bound), (7_680, 1_597, 63_750));
 ///
-/// // Lines that move by their own length or more become all background, and are not interpolated.
-/// let on_background = setting.with_shears(-4_095, 4_095).with_border(Border::Background(0));
-/// assert!(forecast(640, 480, on_background, 0)?.count < 1_597);
+/// // A column that moves by its own length or more becomes all background, and is not interpolated.
+/// let columns = Setting::new().with_shears(0, 4_095);
+/// assert_eq!(forecast(640, 480, columns, 0)?.count, 639);
+/// assert_eq!(forecast(640, 480, columns.with_border(Border::Background(0)), 0)?.count, 480);
 ///
 /// assert_eq!(forecast(640, 480, setting, 32_768), Err(Refusal::Sample { row: 0, column: 0 }));
 /// # Ok(())
