@@ -2,6 +2,7 @@
 //! bound pictures come.
 
 use conformance::calls::{PictureCall, BAD_BACKGROUNDS};
+use conformance::files::read;
 use conformance::numbers::Numbers;
 use conformance::{for_both_implementations, Answer, Implementation};
 use reference::second::{Border, Forecast, Setting};
@@ -167,20 +168,42 @@ fn worst_picture(size: (usize, usize), setting: Setting, implementation: &dyn Im
     samples.iter().map(|all| if all[heaviest] * side < 0 { -LARGEST } else { LARGEST }).collect()
 }
 
-/// The settings under which a search found the pictures that come nearest to the bound, with how far from 0 the
-/// farthest sample of their result lies. Under linear a sample of 32,767 that is not moved is at the bound.
+/// How far from 0 the farthest sample lies of the worst picture under each of some settings, which a search over
+/// settings of up to 18 by 18 samples found.
+const FARTHEST: [((usize, usize), Setting, i32); 5] = [
+    ((1, 1), Setting { kernel: 0, cx: 0, cy: 0, a: 0, b: 0, border: Border::Wrapped }, 32_767),
+    ((13, 16), Setting { kernel: 1, cx: 6, cy: 4, a: -3_406, b: 3_746, border: Border::Wrapped }, 60_236),
+    (
+        (17, 17),
+        Setting { kernel: 1, cx: 14, cy: 9, a: 324, b: -3_934, border: Border::Background(LARGEST) },
+        55_451,
+    ),
+    ((16, 18), Setting { kernel: 2, cx: 7, cy: 12, a: 3_539, b: -3_809, border: Border::Wrapped }, 101_544),
+    (
+        (12, 12),
+        Setting { kernel: 2, cx: 0, cy: 4, a: 636, b: -3_856, border: Border::Background(-LARGEST) },
+        84_384,
+    ),
+];
+
 fn the_pictures_that_come_nearest_to_the_bound(implementation: &dyn Implementation) {
-    let light = Border::Background(LARGEST);
-    let found = [
-        ((1, 1), Setting::default(), 32_767),
-        ((7, 9), Setting { kernel: 1, cx: 3, cy: 1, a: 2_570, b: -3_432, border: Border::Wrapped }, 59_338),
-        ((9, 11), Setting { kernel: 1, cx: 2, cy: 1, a: 1_606, b: -3_753, border: light }, 55_108),
-    ];
-    for (size, setting, reached) in found {
+    for (size, setting, farthest) in FARTHEST {
         let call = PictureCall::fitting(size, setting, worst_picture(size, setting, implementation));
         let (told, outcome) = (figures(&call, LARGEST as u32, implementation), call.run(implementation));
-        let farthest = outcome.extremes.largest.max(-outcome.extremes.smallest);
-        assert_eq!(farthest, reached, "{size:?} {setting:?}");
-        assert!(farthest <= told.bound, "{size:?} {setting:?}");
+        let reached = outcome.extremes.largest.max(-outcome.extremes.smallest);
+        assert_eq!(reached, farthest, "{size:?} {setting:?}");
+        assert!(reached <= told.bound, "{size:?} {setting:?}");
     }
+}
+
+#[test]
+fn readme_tells_how_near_they_come() {
+    let farthest = |kernel| {
+        let reached = FARTHEST.iter().filter(|(_, setting, _)| setting.kernel == kernel).map(|found| found.2);
+        let reached = reached.max().expect("a picture of each kernel");
+        format!("{},{:03}", reached / 1_000, reached % 1_000)
+    };
+    let [linear, keys, spline] = [0, 1, 2].map(farthest);
+    let said = format!("reached {linear} with linear, {keys} with Keys and {spline} with the spline");
+    assert!(read("README.md").contains(&said), "{said}");
 }
