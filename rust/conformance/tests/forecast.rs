@@ -180,9 +180,9 @@ const FARTHEST: [((usize, usize), Setting, i32); 5] = [
     ),
     ((16, 18), Setting { kernel: 2, cx: 7, cy: 12, a: 3_539, b: -3_809, border: Border::Wrapped }, 101_544),
     (
-        (12, 12),
-        Setting { kernel: 2, cx: 0, cy: 4, a: 636, b: -3_856, border: Border::Background(-LARGEST) },
-        84_384,
+        (18, 18),
+        Setting { kernel: 2, cx: 0, cy: 12, a: -410, b: 3_905, border: Border::Background(LARGEST) },
+        85_261,
     ),
 ];
 
