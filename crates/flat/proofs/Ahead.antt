@@ -1,8 +1,9 @@
 -- What a forecast and a straightening promise together holds of the structs that C and Rust receive. Assumes nothing.
-use Prim.Native.Nat.{ℕ}
+use Prim.Native.Nat.{ℕ, _≤_}
 use mathlib.Core.Path.{_≡_, refl, sym, ap, _∙_}
 use mathlib.Core.Bool.{Bool}
 use mathlib.Core.List.{List}
+use borrow.Author.Tests.{le-ltb}
 use lib.IntN.{ℤ}
 use Rattle.refusals.specs.declared.Verdict.the-variants.{Accepted}
 use Rattle.pictures.specs.Answer.{numberOf, AnswerOn}
@@ -17,6 +18,7 @@ use Rattle.flat.specs.declared.ForecastAnswer.{ForecastAnswer}
 use Rattle.flat.specs.declared.Answer.{Answer}
 use Rattle.flat.specs.Exported.{Exported, settingOf, ticketOf, ofOutcome, ofForecast}
 use Rattle.flat.specs.Ahead.{ToldAhead}
+use Rattle.flat.proofs.Range.{zero-laid}
 
 module _ (other : Bool) (W H M : ℕ) (s : FlatSetting) (picture result work : List ℤ) {result′ work′ : List ℤ} {f : ForecastAnswer} {r : Answer}
     (forecast : f ≡ ofForecast (forecastOf W H (settingOf s) M))
@@ -38,6 +40,12 @@ module _ (other : Bool) (W H M : ℕ) (s : FlatSetting) (picture result work : L
         short = λ less. let refused = h .short less in (ap numberOf (refused .0), refused .1, refused .2);
         enough = h .enough;
       })
+
+  -- a straightening that answers number 0 has a forecast of number 0, unless M is over 32,767
+  pub told-of-every : M ≤ 32767 → r .number ≡ 0 → f .number ≡ 0
+  told-of-every few done =
+      let v = both .none-left-out (zero-laid call done) in
+      rw (forecast, v, le-ltb 32767 M few) refl
 
 -- a commit is such a straightening, whatever size and count its ticket tells
 pub told-ahead-of-commit : (W H M : ℕ) (t : FlatTicket) (picture result work : List ℤ) {result′ work′ : List ℤ} {f : ForecastAnswer} {r : Answer}

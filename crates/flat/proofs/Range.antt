@@ -32,7 +32,7 @@ setting-raised : (c : ℤ) (s : FlatSetting) → settingOf (raisedAs c s) ≡ wi
 setting-raised c s = ap (withBorder (settingOf s)) (border-raised c (s .border) (s .background))
 
 -- what was laid out as number 0 has number 0
-zero-laid : {O : Type 0} {flattened : O → Answer} {Promised : O → Type 0} {r : Answer} (call : Exported flattened Promised r) → r .number ≡ 0
+pub zero-laid : {O : Type 0} {flattened : O → Answer} {Promised : O → Type 0} {r : Answer} (call : Exported flattened Promised r) → r .number ≡ 0
     → flattened (call .outcome) .number ≡ 0
 zero-laid call accepted = ap (λ (r : Answer). r .number) (sym (call .answer)) ∙ accepted
 

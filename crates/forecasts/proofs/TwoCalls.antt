@@ -7,7 +7,7 @@ use native.Mathlib.Nat.{mul-pos, le-trans}
 use native.Mathlib.Omega.{arith}
 use borrow.Author.Tests.{lt-ltb}
 use lib.Dec.{ltb}
-use lib.IntN.{ℤ, pos, natAbs, negℤ}
+use lib.IntN.{ℤ, pos, natAbs}
 use lib.ListN.{length}
 use Rattle.arith.proofs.Laws.{≤ℤ-trans}
 use Rattle.arith.proofs.Within.{size-within}
@@ -19,7 +19,6 @@ use Rattle.settings.specs.declared.Border.{Border}
 use Rattle.settings.specs.declared.Setting.{Setting}
 use Rattle.kernels.specs.Kernel.{Kernel, Linear, Keys, Spline}
 use Rattle.moves.specs.Border.{grey}
-use Rattle.moves.specs.Range.{Between}
 use Rattle.moves.proofs.Range.{range-within, kernel-linear}
 use Rattle.moves.proofs.Reach.{reach}
 use Rattle.passes.specs.Count.{count}
@@ -32,7 +31,7 @@ use Rattle.pictures.proofs.Call.{refused-answer, answered-once, was-accepted, w
 use Rattle.forecasts.specs.declared.Foretold.{Foretold}
 use Rattle.forecasts.specs.declared.Figures.{Figures}
 use Rattle.forecasts.specs.Figures.{judgedAhead, largestIn, boundOf, figuresOf, forecastOf}
-use Rattle.forecasts.specs.TwoCalls.{TwoCalls, Bounded, Holds, Kept}
+use Rattle.forecasts.specs.TwoCalls.{TwoCalls, Bounded, AllBounded, Holds, Kept}
 use Rattle.forecasts.proofs.Accepted.{Foreseeable, accepted-ahead, only-largest}
 
 -- ---- the bound is what three passes reach
@@ -85,38 +84,37 @@ module _ {other : Bool} {W H : ℕ} {s : Setting} {M : ℕ} {f : Foretold} {pict
       small i l = le-trans (each i l) (samples-small (s .border) M)
 
       -- under linear by the range that Q-12 promises
-      by-range : s .kernel ≡ 0 → Bounded (pos size) (W * H) result′
+      by-range : s .kernel ≡ 0 → AllBounded (pos size) (W * H) result′
       by-range linear i l =
           let range = range-within (s .border) (W * H) picture size (mul-pos (passed .width .0) (passed .height .0)) small (background-small (s .border) M) in
           let between = two .straightening .no-overshoot (was-accepted other (two .straightening) done) linear i l in
           (≤ℤ-trans (range .0) (between .0), ≤ℤ-trans (between .1) (range .1))
 
       -- and under the others by how far three passes reach
-      by-reach : Bounded (pos (boundOf (kernelIn s) size)) (W * H) result′
+      by-reach : AllBounded (pos (boundOf (kernelIn s) size)) (W * H) result′
       by-reach i l =
           let reached = straighten-reach (s .border) (kernelIn s) (rowMoves s) (columnMoves s) picture (passed .width .0) (passed .height .0) size
           (in-range (s .border) M (passed .small) (passed .setting .background)) (background-small (s .border) M) small i l in
           size-within (line result′ i) (boundOf (kernelIn s) size) (rw (was-straightened other (two .straightening) done i l, ← three-reaches (kernelIn s) size) reached)
 
-      within : (kernel : ℕ) → s .kernel ≡ kernel → Bounded (pos (boundOf (kernelIn s) size)) (W * H) result′
+      within : (kernel : ℕ) → s .kernel ≡ kernel → AllBounded (pos (boundOf (kernelIn s) size)) (W * H) result′
       within zero linear = rw (kernel-linear (s .kernel) linear) (by-range linear)
       within (suc k) e = by-reach
 
-      bounded : Bounded (f .figures .bound) (W * H) result′
+      bounded : AllBounded (f .figures .bound) (W * H) result′
       bounded = rw told (within (s .kernel) refl)
 
-      extremes : Between (negℤ (f .figures .bound)) (f .figures .bound) (smallestOf r) × Between (negℤ (f .figures .bound)) (f .figures .bound) (largestOf r)
+      extremes : Bounded (f .figures .bound) (smallestOf r) × Bounded (f .figures .bound) (largestOf r)
       extremes =
           let figures = was-told other (two .straightening) done in
           let some = mul-pos (passed .width .0) (passed .height .0) in
-          let b = f .figures .bound in
           rw (figures .0, figures .1) (
-            extreme-has _ (Between (negℤ b) b) (line result′) (W * H) _ (smallest-is (line result′) (W * H) some) bounded,
-            extreme-has _ (Between (negℤ b) b) (line result′) (W * H) _ (largest-is (line result′) (W * H) some) bounded,
+            extreme-has _ (Bounded (f .figures .bound)) (line result′) (W * H) _ (smallest-is (line result′) (W * H) some) bounded,
+            extreme-has _ (Bounded (f .figures .bound)) (line result′) (W * H) _ (largest-is (line result′) (W * H) some) bounded,
           )
 
     fits : W * H ≤ length picture → W * H ≤ length result → f .figures .work ≤ length work → AllWithin 32767 (W * H) picture → Fit W H s picture (length result) (length work)
-    fits p q w small =
+    fits p q w range =
         record {
           width = passed .width;
           height = passed .height;
@@ -124,7 +122,7 @@ module _ {other : Bool} {W H : ℕ} {s : Setting} {M : ℕ} {f : Foretold} {pict
           result-places = q;
           work-places = omega (arith, ap (λ (g : Figures). g .work) told);
           setting = passed .setting;
-          samples = small;
+          samples = range;
         }
 
     holds : Holds other W H M f picture result work r result′ work′

@@ -24,17 +24,19 @@ pub record TwoCalls (other : Bool) (W H : ℕ) (s : Setting) (M : ℕ) (f : Fore
   pub forecast : f ≡ forecastOf W H s M
   pub straightening : AnswerOn other W H s picture result work r result′ work′
 
--- every one of the first n samples lies from -bound to bound
-abbrev pub Bounded : ℤ → ℕ → List ℤ → Type 0
-Bounded bound n s = (i : ℕ) → i < n → Between (negℤ bound) bound (line s i)
+-- a sample that lies from -bound to bound, and a list whose first n samples do
+abbrev pub Bounded : ℤ → ℤ → Type 0
+Bounded bound v = Between (negℤ bound) bound v
+
+abbrev pub AllBounded : ℤ → ℕ → List ℤ → Type 0
+AllBounded bound n s = (i : ℕ) → i < n → Bounded bound (line s i)
 
 -- a forecast that is accepted holds of it: an accepted one counts just the lines that were forecast, and one of samples within M leaves none beyond the bound,
 -- nor tells one; with fewer work places than were forecast it is refused under 2, and with as many it is accepted
 pub record Holds (other : Bool) (W H M : ℕ) (f : Foretold) (picture result work : List ℤ) (r : Outcome) (result′ work′ : List ℤ) : Type 0 where
   pub count : numberOf r ≡ 0 → countOf r ≡ f .figures .count
-  pub bound : numberOf r ≡ 0 → AllWithin M (W * H) picture → Bounded (f .figures .bound) (W * H) result′
-  pub extremes : numberOf r ≡ 0 → AllWithin M (W * H) picture
-      → Between (negℤ (f .figures .bound)) (f .figures .bound) (smallestOf r) × Between (negℤ (f .figures .bound)) (f .figures .bound) (largestOf r)
+  pub bound : numberOf r ≡ 0 → AllWithin M (W * H) picture → AllBounded (f .figures .bound) (W * H) result′
+  pub extremes : numberOf r ≡ 0 → AllWithin M (W * H) picture → Bounded (f .figures .bound) (smallestOf r) × Bounded (f .figures .bound) (largestOf r)
   pub short : length work < f .figures .work → (r ≡ outcome.Refused 2 0 0) × (result′ ≡ result) × (work′ ≡ work)
   pub enough : other ≡ false → W * H ≤ length picture → W * H ≤ length result → f .figures .work ≤ length work → AllWithin M (W * H) picture → numberOf r ≡ 0
 
