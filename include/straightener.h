@@ -322,7 +322,8 @@ straightener_answer straightener_commit(straightener_ticket ticket, size_t width
  * Every straightener_straighten and straightener_commit with that size and setting that is accepted answers
  * just that count; of a picture whose samples lie from -largest to largest it leaves no sample, and tells no
  * smallest or largest, below -bound or above bound. With one place of work less than that it is refused under
- * 2; with just that work such a picture is straightened, if its buffers have their places.
+ * 2; with just that work such a picture is straightened, if picture and result have their places, and a ticket
+ * that size.
  */
 straightener_forecast_answer straightener_forecast(size_t width, size_t height,
                                                    straightener_setting setting, uint32_t largest);

@@ -27,7 +27,7 @@ pub struct Forecast {
 ///
 /// Every such straightening that is accepted answers just that count; of a picture whose samples lie from
 /// -`largest` to `largest` it leaves no sample, and tells none, beyond the bound; and with just that work such a
-/// picture is straightened, if its buffers have their places.
+/// picture is straightened, if picture and result have their places, and a ticket that size.
 ///
 /// Refused with [`Refusal::Size`], [`Refusal::Centre`], [`Refusal::Shear`], [`Refusal::Background`] or
 /// [`Refusal::Sample`], the first of them that applies; the last, with row and column 0, is of a `largest` over
