@@ -1,7 +1,7 @@
 //! The proved library against the second implementation, call by call.
 #![cfg(feature = "library")]
 
-use conformance::calls::{LineCall, Outcome, PictureCall};
+use conformance::calls::{LineCall, Outcome, PictureCall, BAD_BACKGROUNDS};
 use conformance::numbers::Numbers;
 use conformance::{Implementation, Library, Second};
 use reference::second::{Border, Setting};
@@ -137,6 +137,40 @@ fn lines_at_every_fraction() {
         let call = LineCall::fitting(d.unsigned_abs() % 3, d, line).with_border(border);
         assert_eq!(call.run(&Library), call.run(&Second), "{call:?}");
     }
+}
+
+/// A size of up to 1,026 by 1,026, a setting for it and a largest sample size; in nearly half of them nothing is wrong.
+fn hostile_forecast(numbers: &mut Numbers) -> ((usize, usize), Setting, u32) {
+    let mut size = (1 + numbers.below(1_024), 1 + numbers.below(1_024));
+    let (kernel, any) = (numbers.below(3) as u32, numbers.bits() % 32_768);
+    let mut setting = numbers.setting(kernel, size.0, size.1);
+    let mut largest = numbers.one_of(&[0, 1, 2, 32_766, 32_767, any]);
+    match numbers.below(12) {
+        0 => size.0 = numbers.one_of(&[0, 1_025, 1_026, usize::MAX]),
+        1 => size.1 = numbers.one_of(&[0, 1_025, 1_026, usize::MAX]),
+        2 => setting.cy = numbers.one_of(&[size.1, size.1 + 1, usize::MAX]),
+        3 => setting.b = numbers.one_of(&[4_097, -4_097, i32::MAX, i32::MIN]),
+        4 => setting.kernel = numbers.one_of(&[3, 4, u32::MAX]),
+        5 => setting.border = Border::Background(numbers.one_of(&BAD_BACKGROUNDS)),
+        _ => {}
+    }
+    if numbers.once_in(12) {
+        largest = numbers.one_of(&[32_768, 65_535, 1 << 31, u32::MAX]);
+    }
+    (size, setting, largest)
+}
+
+#[test]
+fn hostile_forecasts() {
+    let (mut numbers, mut seen) = (Numbers::seeded(32), [0; 13]);
+    for _ in 0..20_000 {
+        let (size, setting, largest) = hostile_forecast(&mut numbers);
+        let told = Library.forecast(size, setting, largest);
+        assert_eq!(told, Second.forecast(size, setting, largest), "{size:?} {setting:?} {largest}");
+        seen[told.0.number as usize] += 1;
+    }
+    assert!([0, 1, 3, 4, 5, 6, 12].iter().all(|&number| seen[number] > 300), "{seen:?}");
+    assert_eq!(seen[2], 0, "a forecast has no buffers");
 }
 
 #[test]
