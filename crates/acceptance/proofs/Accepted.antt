@@ -1,4 +1,4 @@
--- A call is accepted just where no number applies. Assumes nothing.
+-- The order in which a call is judged, and that it is accepted just where no number applies. Assumes nothing.
 use Prim.Native.Nat.{ℕ, _*_, _≤_, _<_, max}
 use mathlib.Core.Path.{_≡_, refl, ap, _∙_}
 use mathlib.Core.Bool.{Bool, true, false, _||_}

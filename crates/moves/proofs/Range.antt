@@ -1,6 +1,6 @@
 -- Q-12 of one line, under both borders: linear leaves no range that holds the samples and the background (`bordered-between`), and under linear and
 -- Keys a number added to both is added to every moved sample (`bordered-raised`). Of lists these are `linear-keeps-range` and `linear-keys-add`.
--- Assumes nothing.
+-- And where a range lies (`range-within`). Assumes nothing.
 use mathlib.Core.Path.{_≡_, refl, sym, ap, _∙_, subst}
 use mathlib.Core.Bool.{Bool, true, false, cond}
 use mathlib.Core.List.{List}

@@ -19,7 +19,7 @@ abbrev pub ofFound : Found → Verdict
 ofFound Nothing = Accepted
 ofFound (At row column) = Refused 6 row column
 
--- a number that is judged after 6: the first verdict stands where it is a refusal
+-- one verdict, and then another: the first stands where it is a refusal
 abbrev pub andThen : Verdict → Verdict → Verdict
 andThen Accepted later = later
 andThen (Refused number row column) later = Refused number row column
