@@ -48,18 +48,18 @@ fn judge(width: usize, height: usize, setting: Setting, largest: u32) -> Verdict
 }
 
 // How far a number lies from 0, on either side.
-fn size_of(v: i32) -> u32
+fn size_of(v: i32) -> usize
     requires { ⌜ natAbs v ≤ 32767 ⌝ }
     ensures { λ r. ⌜ r ≡ natAbs v ⌝ }
 {
     if v < 0 {
-        return (0 - v) as u32;
+        return (0 - v) as usize;
     }
-    v as u32
+    v as usize
 }
 
 // The size of the background, 0 where there is none.
-fn background_size(border: Border) -> u32
+fn background_size(border: Border) -> usize
     requires { ⌜ natAbs (grey border) ≤ 32767 ⌝ }
     ensures { λ r. ⌜ r ≡ natAbs (grey border) ⌝ }
 {
@@ -70,19 +70,15 @@ fn background_size(border: Border) -> u32
 }
 
 // The largest size of any sample that goes into a line: the background's, where it is larger than the picture's.
-fn largest_in(border: Border, largest: u32) -> u32
-    requires { ⌜ (natAbs (grey border) ≤ 32767) × (largest ≤ 32767) ⌝ }
-    ensures { λ r. ⌜ (r ≡ largestIn border largest) × (r ≤ 32767) ⌝ }
+fn largest_in(border: Border, largest: usize) -> usize
+    requires { ⌜ natAbs (grey border) ≤ 32767 ⌝ }
+    ensures { λ r. ⌜ r ≡ largestIn border largest ⌝ }
 {
-    let size = background_size(border);
-    if largest < size {
-        return size;
-    }
-    largest
+    arith::most(largest, background_size(border))
 }
 
 // How far one pass under Keys takes samples of at most this size.
-fn keys_onward(size: u32) -> u32
+fn keys_onward(size: usize) -> usize
     requires { ⌜ size ≤ 294912 ⌝ }
     ensures { λ r. ⌜ r ≡ onward size ⌝ }
 {
@@ -90,17 +86,17 @@ fn keys_onward(size: u32) -> u32
 }
 
 // How far three passes take samples of at most this size.
-fn bound_of(kernel: u32, largest: u32) -> u32
-    requires { ⌜ (kernel ≤ 2) × (largest ≤ 32767) ⌝ }
-    ensures { λ r. ⌜ (r ≡ boundOf (kernelOf kernel) largest) × (r ≤ 884709) ⌝ }
+fn bound_of(kernel: u32, size: usize) -> usize
+    requires { ⌜ (kernel ≤ 2) × (size ≤ 32767) ⌝ }
+    ensures { λ r. ⌜ (r ≡ boundOf (kernelOf kernel) size) × (r ≤ 884709) ⌝ }
 {
     if kernel == 0 {
-        return largest;
+        return size;
     }
     if kernel == 1 {
-        return keys_onward(keys_onward(keys_onward(largest)));
+        return keys_onward(keys_onward(keys_onward(size)));
     }
-    27 * largest
+    27 * size
 }
 
 // The figures of a forecast that is accepted.
@@ -109,7 +105,7 @@ fn figures_of(width: usize, height: usize, setting: Setting, largest: u32) -> Fi
     ensures { λ r. ⌜ r ≡ figuresOf width height setting largest ⌝ }
 {
     let border = setting.border;
-    let size = largest_in(border, largest);
+    let size = largest_in(border, largest as usize);
     let bound = bound_of(setting.kernel, size) as i32;
     Figures {
         work: acceptance::room(width, height),

@@ -82,14 +82,9 @@ impl Implementation for Library {
         moved(raw::commit(ticket, width, height, picture, result, work))
     }
 
-    fn forecast(
-        &self,
-        (width, height): (usize, usize),
-        setting: Setting,
-        largest: u32,
-    ) -> (Answer, Forecast) {
+    fn forecast(&self, size: (usize, usize), setting: Setting, largest: u32) -> (Answer, Forecast) {
         let raw::ForecastAnswer { number, row, column, work, count, bound } =
-            raw::forecast(width, height, raw_setting(setting), largest);
+            raw::forecast(size.0, size.1, raw_setting(setting), largest);
         (Answer::of(number, row, column, 0), Forecast { work, count, bound })
     }
 

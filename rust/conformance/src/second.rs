@@ -65,13 +65,8 @@ impl Implementation for Second {
         moved(second::commit(ticket, width, height, picture, result, work))
     }
 
-    fn forecast(
-        &self,
-        (width, height): (usize, usize),
-        setting: Setting,
-        largest: u32,
-    ) -> (Answer, Forecast) {
-        let outcome = second::forecast(width, height, setting, largest);
+    fn forecast(&self, size: (usize, usize), setting: Setting, largest: u32) -> (Answer, Forecast) {
+        let outcome = second::forecast(size.0, size.1, setting, largest);
         (answer(outcome.map(|_| 0)), outcome.unwrap_or_default())
     }
 

@@ -8,10 +8,10 @@ use Rattle.forecasts.specs.Figures.{onward, boundOf}
 use Rattle.forecasts.proofs.bound_of.Statement.{statement}
 use Rattle.forecasts.proofs.bound_of.Tie as tie
 
-spline : (kernel largest : ℕ) → 2 ≤ kernel → 27 * largest ≡ boundOf (kernelOf kernel) largest
-spline zero largest h = absurd (omega arith)
-spline (suc zero) largest h = absurd (omega arith)
-spline (suc (suc k)) largest h = refl
+spline : (kernel size : ℕ) → 2 ≤ kernel → 27 * size ≡ boundOf (kernelOf kernel) size
+spline zero size h = absurd (omega arith)
+spline (suc zero) size h = absurd (omega arith)
+spline (suc (suc k)) size h = refl
 
 returns : tie.Need-returns
 returns c = search needs
@@ -38,7 +38,7 @@ mul-result c = search needs
 returns-3 : tie.Need-returns-3
 returns-3 c =
     let s = c .before .before in
-    (spline (s .args .kernel) (s .args .largest) (omega arith), omega arith)
+    (spline (s .args .kernel) (s .args .size) (omega arith), omega arith)
 
 pub bound-of-spec : {M : Type 1} → statement M
 bound-of-spec =
