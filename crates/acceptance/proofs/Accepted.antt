@@ -43,11 +43,11 @@ pub in-order : (other : Bool) (W H : ℕ) (s : Setting) (picture : List ℤ) (re
     (refusedIf (badShears s) 4
     (refusedIf (badKernel (s .kernel)) 5
     (refusedIf (badBackground (s .border)) 12
-    (ofFound (firstBad range W H picture))))))))
+    (ofFound 6 (firstBad range W H picture))))))))
 unfolding judgedOn
 in-order other W H s picture result work =
     ap (λ (v : Verdict). refusedIf (badSize W H) 1 (refusedIf (tooShort W H (length picture) result work) 2 (refusedIf other 14 v)))
-    (then-later (badCentre W H s) (badShears s) (badKernel (s .kernel)) (badBackground (s .border)) (ofFound (firstBad range W H picture)))
+    (then-later (badCentre W H s) (badShears s) (badKernel (s .kernel)) (badBackground (s .border)) (ofFound 6 (firstBad range W H picture)))
 
 -- ---- what each test that failed tells
 pub long-enough : (W H picture result work : ℕ) → tooShort W H picture result work ≡ false → (W * H ≤ picture) × (W * H ≤ result) × (12 * max W H ≤ work)
@@ -119,7 +119,7 @@ zero-if : (t : Bool) (number : ℕ) (later : Verdict) → ZeroButSix later → Z
 zero-if true number later z other = (refl, refl)
 zero-if false number later z other = z other
 
-zero-found : (f : Found) → ZeroButSix (ofFound f)
+zero-found : (f : Found) → ZeroButSix (ofFound 6 f)
 zero-found Nothing other = (refl, refl)
 zero-found (At row column) other = absurd (other refl)
 
@@ -150,13 +150,13 @@ setting-by-zero W H s = setting-unread W H s .some-number
 module _ (W H : ℕ) (s : Setting) (picture : List ℤ) (result work : ℕ) where
   -- past every other test the samples alone are judged
   pub only-samples : (other : Bool) → badSize W H ≡ false → tooShort W H (length picture) result work ≡ false → other ≡ false → judgedSetting W H s ≡ Accepted
-      → judgedOn other W H s picture result work ≡ ofFound (firstBad range W H picture)
+      → judgedOn other W H s picture result work ≡ ofFound 6 (firstBad range W H picture)
   unfolding judgedOn
   only-samples other size buffers same setting = rw (size, buffers, same, setting) refl
 
   -- a call that passes every test is accepted
   pub fit-accepted : Fit W H s picture result work → judged W H s picture result work ≡ Accepted
-  fit-accepted f = only-samples false (fit-size W H (f .width) (f .height)) buffers refl (setting-accepted (f .setting)) ∙ ap ofFound samples
+  fit-accepted f = only-samples false (fit-size W H (f .width) (f .height)) buffers refl (setting-accepted (f .setting)) ∙ ap (ofFound 6) samples
     where
       buffers : tooShort W H (length picture) result work ≡ false
       buffers = unfold tooShort short in
@@ -174,7 +174,7 @@ module _ (other : Bool) (W H : ℕ) (s : Setting) (picture : List ℤ) (result w
       let two = refusedIf-accepted (tooShort W H (length picture) result work) 2 _ (one .1) in
       let fourteen = refusedIf-accepted other 14 _ (two .1) in
       let setting = andThen-accepted (judgedSetting W H s) _ (fourteen .1) in
-      let six = nothing-bad range W H picture .0 (ofFound-accepted (firstBad range W H picture) (setting .1)) in
+      let six = nothing-bad range W H picture .0 (ofFound-accepted 6 (firstBad range W H picture) (setting .1)) in
       let size = size-good (one .0) in
       let long = long-enough W H (length picture) result work (two .0) in
       record {
@@ -205,7 +205,7 @@ module _ (other : Bool) (W H : ℕ) (s : Setting) (picture : List ℤ) (result w
       past-then Accepted later y x u e = e
       past-then (Refused number row column) later y x u e = absurd (u .not-six (ap numberOf e))
 
-      found : (f : Found) (y x : ℕ) → ofFound f ≡ Refused 6 y x → f ≡ At y x
+      found : (f : Found) (y x : ℕ) → ofFound 6 f ≡ Refused 6 y x → f ≡ At y x
       found Nothing y x e = let z : _≡_ {A = ℕ} 0 1 = cc in absurd (omega arith)
       found (At row column) y x e =
           let p : row ≡ y = cc in
@@ -224,4 +224,4 @@ module _ (other : Bool) (W H : ℕ) (s : Setting) (picture : List ℤ) (result w
   unfolding judgedOn
   zero-accepted =
       by-zero-if (badSize W H) 1 _ (λ e. omega arith) (by-zero-if (tooShort W H (length picture) result work) 2 _ (λ e. omega arith)
-      (by-zero-if other 14 _ (λ e. omega arith) (by-zero-then (judgedSetting W H s) _ (setting-by-zero W H s) (by-zero-found (firstBad range W H picture)))))
+      (by-zero-if other 14 _ (λ e. omega arith) (by-zero-then (judgedSetting W H s) _ (setting-by-zero W H s) (by-zero-found 6 (firstBad range W H picture) (λ e. omega arith)))))

@@ -54,7 +54,7 @@ judgedOn other W H s picture result work =
     refusedIf (badSize W H) 1
     (refusedIf (tooShort W H (length picture) result work) 2
     (refusedIf other 14
-    (andThen (judgedSetting W H s) (ofFound (firstBad range W H picture)))))
+    (andThen (judgedSetting W H s) (ofFound 6 (firstBad range W H picture)))))
 
 -- the same of a call on no ticket, which 14 does not refuse
 abbrev pub judged : ℕ → ℕ → Setting → List ℤ → ℕ → ℕ → Verdict

@@ -67,6 +67,13 @@ false-lt x y h = answer (ltZ x y) refl
     answer true e = clashℤ (lt-true x y e) h
     answer false e = e
 
+pub false-le : (x y : ℤ) → y <ℤ x → leZ x y ≡ false
+false-le x y h = answer (leZ x y) refl
+  where
+    answer : (b : Bool) → leZ x y ≡ b → leZ x y ≡ false
+    answer true e = clashℤ h (le-true x y e)
+    answer false e = e
+
 -- ---- casts. To a wider signed type: `sfits-widen tt (c .fits .x)` (`mir.Facts`). To an unsigned one, of what is not negative:
 pub cast-unsigned : {w w′ : Width} {z : ℤ} → T (ltb (hbits w) (bits w′)) → SFits w z → pos 0 ≤ℤ z → T (nonNeg z) × Fits w′ (natAbs z)
 cast-unsigned {z = z} t f h = (yes-nonNeg {z = z} h, fits-natAbs t f)

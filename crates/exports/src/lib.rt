@@ -9,12 +9,14 @@ ghost use Rattle.lines.specs.Answer as line;
 ghost use Rattle.acceptance.specs.Judge.{workPlaces};
 ghost use Rattle.settings.specs.Setting.{withKernel, withCentre, withShears, withBorder};
 ghost use Rattle.steps.specs.Step.{SineAnswer, changeOf};
-ghost use Rattle.levelling.specs.Level.{LevelAnswer};
+ghost use Rattle.levelling.specs.Level.{largestSide, LevelAnswer};
+ghost use Rattle.graticule.specs.Checked.{LevelChecked};
 ghost use Rattle.readings.specs.Sample.{greyOf};
 ghost use Rattle.readings.specs.Answers.{Out, FloatsOut, ReadingAt, SummaryOf};
 ghost use Rattle.format.specs.Answered.{LineAnswered};
-ghost use Rattle.flat.specs.Exported.{Exported, borderOf, settingOf, laidAs, ofChange, ofVerdict, ofOutcome, ofLine, ofSine, ofLevelled, ofReading, ofSummary, ofWritten, ticketOf, ofAsked, ofForecast};
+ghost use Rattle.flat.specs.Exported.{Exported, borderOf, settingOf, laidAs, ofChange, ofVerdict, ofOutcome, ofLine, ofSine, ofLevelled, ofReading, ofSummary, ofWritten, ticketOf, ofAsked, ofForecast, ofChecked};
 use flat::Answer;
+use flat::CheckedStep;
 use flat::FlatAsked;
 use flat::FlatChange;
 use flat::FlatSetting;
@@ -219,9 +221,26 @@ pub extern "C" fn straightener_sine(t: i32) -> Step
 // The step that levels the line through two points.
 #[no_mangle]
 pub extern "C" fn straightener_level(x1: i32, y1: i32, x2: i32, y2: i32) -> Step
-    ensures { λ r. ⌜ Exported ofLevelled (LevelAnswer x1 y1 x2 y2) r ⌝ }
+    ensures { λ r. ⌜ Exported ofLevelled (LevelAnswer largestSide largestSide x1 y1 x2 y2) r ⌝ }
 {
     flat::of_levelled(levelling::level(x1, y1, x2, y2))
+}
+
+// The same, where no sample on that line is below a threshold.
+#[no_mangle]
+pub extern "C" fn straightener_level_checked(
+    width: usize,
+    height: usize,
+    x1: i32,
+    y1: i32,
+    x2: i32,
+    y2: i32,
+    threshold: i32,
+    picture: &[i32],
+) -> CheckedStep
+    ensures { λ r. ⌜ Exported ofChecked (LevelChecked width height x1 y1 x2 y2 threshold (now (picture .entry))) r ⌝ }
+{
+    flat::of_checked(graticule::level_checked(width, height, x1, y1, x2, y2, threshold, picture))
 }
 
 // Greys out.

@@ -23,11 +23,11 @@ unfolding sineOf beyondOf
 sine-1698 = refl
 
 -- a point outside is 7, an upright line 8
-level-outside : ofLevelled (levelOf (pos 0) (pos 0) (pos 1024) (pos 0)) ≡ record { number = 7; value = pos 0 }
+level-outside : ofLevelled (levelOf 1024 1024 (pos 0) (pos 0) (pos 1024) (pos 0)) ≡ record { number = 7; value = pos 0 }
 unfolding levelOf anyOutside outside
 level-outside = refl
 
-level-upright : ofLevelled (levelOf (pos 5) (pos 0) (pos 5) (pos 0)) ≡ record { number = 8; value = pos 0 }
+level-upright : ofLevelled (levelOf 1024 1024 (pos 5) (pos 0) (pos 5) (pos 0)) ≡ record { number = 8; value = pos 0 }
 unfolding levelOf directionOf anyOutside outside steep
 level-upright = refl
 

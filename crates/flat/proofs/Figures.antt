@@ -17,7 +17,7 @@ use Rattle.forecasts.specs.declared.Figures.{Figures}
 use Rattle.readings.specs.declared.Reading.{Reading}
 use Rattle.readings.specs.declared.Reading.the-variants.{Level, Under, Over}
 use Rattle.flat.specs.declared.FlatSetting.{FlatSetting}
-use Rattle.flat.specs.Exported.{ofVerdict, ofAsked, ofForecast, ofOutcome, ofLine, ofSine, ofLevelled, kindOf, greysOf, ofReading, ofSummary, ofWritten}
+use Rattle.flat.specs.Exported.{ofVerdict, ofAsked, ofForecast, ofOutcome, ofLine, ofSine, ofLevelled, ofChecked, kindOf, greysOf, ofReading, ofSummary, ofWritten}
 
 -- ---- refused under a number, with a row and a column: these three, and every other figure 0
 module _ (n y x : ℕ) where
@@ -41,6 +41,10 @@ module _ (n y x : ℕ) where
 
   pub refused-line : ofLine (line.Refused n y x) ≡ record { number = n; row = y; column = x; count = 0; smallest = pos 0; largest = pos 0 }
   refused-line = refl
+
+  -- with the step that it tells
+  pub refused-checked : (t : ℤ) → ofChecked (record { verdict = verdict.Refused n y x; step = t }) ≡ record { number = n; row = y; column = x; step = t }
+  refused-checked t = refl
 
   pub refused-reading : (greys : Float)
       → ofReading (record { verdict = verdict.Refused n y x; reading = Level greys })
@@ -97,6 +101,9 @@ accepted-answer bytes = refl
 
 pub accepted-level : (t : ℤ) → ofLevelled (level.Step t) ≡ record { number = 0; value = t }
 accepted-level t = refl
+
+pub accepted-checked : (t : ℤ) → ofChecked (record { verdict = verdict.Accepted; step = t }) ≡ record { number = 0; row = 0; column = 0; step = t }
+accepted-checked t = refl
 
 -- ---- the cases of a reading: 0 Level, 1 Under, 2 Over, each with its own greys
 pub kinds : (x y z : Float) → map kindOf (Level x ∷ Under y ∷ Over z ∷ []) ≡ 0 ∷ 1 ∷ 2 ∷ []

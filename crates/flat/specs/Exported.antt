@@ -27,6 +27,7 @@ use Rattle.format.specs.Answered.{writtenNumber, writtenBytes}
 use Rattle.tickets.specs.declared.Ticket.{Ticket}
 use Rattle.tickets.specs.declared.Asked.{Asked}
 use Rattle.forecasts.specs.declared.Foretold.{Foretold}
+use Rattle.graticule.specs.declared.Checked.{Checked}
 use Rattle.flat.specs.declared.FlatSetting.{FlatSetting}
 use Rattle.flat.specs.declared.FlatChange.{FlatChange}
 use Rattle.flat.specs.declared.FlatTicket.{FlatTicket}
@@ -34,6 +35,7 @@ use Rattle.flat.specs.declared.FlatAsked.{FlatAsked}
 use Rattle.flat.specs.declared.ForecastAnswer.{ForecastAnswer}
 use Rattle.flat.specs.declared.Answer.{Answer}
 use Rattle.flat.specs.declared.Step.{Step}
+use Rattle.flat.specs.declared.CheckedStep.{CheckedStep}
 use Rattle.flat.specs.declared.ReadingAnswer.{ReadingAnswer}
 use Rattle.flat.specs.declared.SummaryAnswer.{SummaryAnswer}
 use Rattle.flat.specs.declared.LineAnswer.{LineAnswer}
@@ -111,6 +113,10 @@ ofSine s = record { number = sineNumber s; value = sineValue s }
 
 abbrev pub ofLevelled : Levelled → Step
 ofLevelled l = record { number = levelNumber l; value = levelStep l }
+
+-- what levelling with a picture answers
+abbrev pub ofChecked : Checked → CheckedStep
+ofChecked c = let v = c .verdict in record { number = verdict.numberOf v; row = verdict.rowOf v; column = verdict.columnOf v; step = c .step }
 
 -- 0 Level, 1 Under, 2 Over, each with its greys
 abbrev pub kindOf : Reading → ℕ

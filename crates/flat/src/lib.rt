@@ -2,9 +2,10 @@
 // out flat. include/straightener.h says what each field means.
 ghost use mathlib.Core.Path.{_≡_};
 ghost use lib.IntN.{pos};
-ghost use Rattle.flat.specs.Exported.{borderOf, settingOf, laidAs, ofChange, ofVerdict, ofOutcome, ofLine, ofSine, ofLevelled, kindOf, greysOf, ofReading, ofSummary, ofWritten, ticketOf, ofAsked, ofForecast};
+ghost use Rattle.flat.specs.Exported.{borderOf, settingOf, laidAs, ofChange, ofVerdict, ofOutcome, ofLine, ofSine, ofLevelled, kindOf, greysOf, ofReading, ofSummary, ofWritten, ticketOf, ofAsked, ofForecast, ofChecked};
 use forecasts::Foretold;
 use format::Written;
+use graticule::Checked;
 use levelling::Levelled;
 use lines::LineOutcome;
 use lists::Extremes;
@@ -84,6 +85,15 @@ pub struct ForecastAnswer {
 pub struct Step {
     pub number: u32,
     pub value: i32,
+}
+
+// What levelling with a picture answers: 0 or the refusal number, the row and the column under 6 and 15, and the step, 0 where it was refused.
+#[repr(C)]
+pub struct CheckedStep {
+    pub number: u32,
+    pub row: usize,
+    pub column: usize,
+    pub step: i32,
 }
 
 // A reading: `kind` is 0 Level, 1 Under, 2 Over.
@@ -293,6 +303,19 @@ pub fn of_levelled(levelled: Levelled) -> Step
     match levelled {
         Levelled::Step(value) => Step { number: 0, value },
         Levelled::Refused(number) => Step { number, value: 0 },
+    }
+}
+
+pub fn of_checked(checked: Checked) -> CheckedStep
+    ensures { λ r. ⌜ r ≡ ofChecked checked ⌝ }
+{
+    let verdict = checked.verdict;
+    let judged = of_verdict(verdict);
+    CheckedStep {
+        number: judged.number,
+        row: judged.row,
+        column: judged.column,
+        step: checked.step,
     }
 }
 

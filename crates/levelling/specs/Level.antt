@@ -5,7 +5,7 @@ use mathlib.Core.Path.{_≡_}
 use mathlib.Core.Bool.{Bool, cond, _||_}
 use lib.Dec.{ltb}
 use lib.IntN.{ℤ, pos, natAbs, _+ℤ_, _-ℤ_, _*ℤ_}
-use lib.Signed.{ltZ, _<ℤ_}
+use lib.Signed.{leZ, ltZ, _<ℤ_}
 use Rattle.levelling.specs.declared.Levelled.{Levelled}
 use Rattle.levelling.specs.declared.Levelled.the-variants.{Step, Refused}
 
@@ -38,12 +38,16 @@ unfoldable pub levelling : ℤ → ℤ → ℤ
 levelling dx dy = stepAt (firstSmallest (missAt dx dy) 3394)
 
 -- ---- refusals, and the answer
--- number 7: a coordinate not from 0 to 1,023, and one of two points
-unfoldable pub outside : ℤ → Bool
-outside c = ltZ c (pos 0) || ltZ (pos 1023) c
+-- the largest side of a picture: coordinates 0 to 1,023
+abbrev pub largestSide : ℕ
+largestSide = 1024
 
-unfoldable pub anyOutside : ℤ → ℤ → ℤ → ℤ → Bool
-anyOutside x1 y1 x2 y2 = outside x1 || outside y1 || outside x2 || outside y2
+-- number 7: a coordinate that no place along a side has, and one of two points outside width and height
+unfoldable pub outside : ℕ → ℤ → Bool
+outside side c = ltZ c (pos 0) || leZ (pos side) c
+
+unfoldable pub anyOutside : ℕ → ℕ → ℤ → ℤ → ℤ → ℤ → Bool
+anyOutside width height x1 y1 x2 y2 = outside width x1 || outside height y1 || outside width x2 || outside height y2
 
 -- number 8: dx below 1, or |dy| above dx
 unfoldable pub steep : ℤ → ℤ → Bool
@@ -58,15 +62,15 @@ abbrev pub levelStep : Levelled → ℤ
 levelStep (Step t) = t
 levelStep (Refused n) = pos 0
 
--- the answer from the differences, and from two points
+-- the answer from the differences, and from two points: those of the plain call lie within the largest side, those of a picture within its width and height
 unfoldable pub directionOf : ℤ → ℤ → Levelled
 directionOf dx dy = cond (steep dx dy) (Refused 8) (Step (levelling dx dy))
 
-unfoldable pub levelOf : ℤ → ℤ → ℤ → ℤ → Levelled
-levelOf x1 y1 x2 y2 = cond (anyOutside x1 y1 x2 y2) (Refused 7) (directionOf (x2 -ℤ x1) (y2 -ℤ y1))
+unfoldable pub levelOf : ℕ → ℕ → ℤ → ℤ → ℤ → ℤ → Levelled
+levelOf width height x1 y1 x2 y2 = cond (anyOutside width height x1 y1 x2 y2) (Refused 7) (directionOf (x2 -ℤ x1) (y2 -ℤ y1))
 
 -- what r, the answer for the points (x1, y1) and (x2, y2), is: its case, its number, and its step where none is refused
-pub record LevelAnswer (x1 y1 x2 y2 : ℤ) (r : Levelled) : Type 0 where
-  pub answer : r ≡ levelOf x1 y1 x2 y2
-  pub number : levelNumber r ≡ cond (anyOutside x1 y1 x2 y2) 7 (cond (steep (x2 -ℤ x1) (y2 -ℤ y1)) 8 0)
+pub record LevelAnswer (width height : ℕ) (x1 y1 x2 y2 : ℤ) (r : Levelled) : Type 0 where
+  pub answer : r ≡ levelOf width height x1 y1 x2 y2
+  pub number : levelNumber r ≡ cond (anyOutside width height x1 y1 x2 y2) 7 (cond (steep (x2 -ℤ x1) (y2 -ℤ y1)) 8 0)
   pub step : levelNumber r ≡ 0 → Levels (x2 -ℤ x1) (y2 -ℤ y1) (levelStep r)

@@ -3,8 +3,11 @@ ghost use mathlib.Core.Path.{_≡_};
 ghost use mathlib.Core.Bool.{false};
 ghost use Prim.Native.Nat.{_+_, _-_, _<_, _≤_};
 ghost use lib.IntN.{natAbs, _-ℤ_};
-ghost use Rattle.levelling.specs.Level.{stepAt, levelling, outside, steep, directionOf, LevelAnswer};
+ghost use Rattle.levelling.specs.Level.{stepAt, levelling, largestSide, outside, steep, directionOf, LevelAnswer};
 ghost use Rattle.levelling.specs.Search.{Flat, Missed, Between};
+
+// The largest side of a picture, in samples.
+const LARGEST_SIDE: usize = 1024;
 
 // What `level` answers: the step, or a refusal number.
 pub enum Levelled {
@@ -66,11 +69,12 @@ fn smallest(dx: i64, dy: i64) -> usize
     if above < below { lo + 1 } else { lo }
 }
 
-// Whether a coordinate is not from 0 to 1,023, number 7.
-fn is_outside(c: i32) -> bool
-    ensures { λ r. ⌜ r ≡ outside c ⌝ }
+// Whether no place along a side has this coordinate, number 7.
+fn is_outside(side: usize, c: i32) -> bool
+    requires { ⌜ side ≤ largestSide ⌝ }
+    ensures { λ r. ⌜ r ≡ outside side c ⌝ }
 {
-    (c < 0) | (1023 < c)
+    (c < 0) | (side as i32 <= c)
 }
 
 // Whether dx is below 1 or |dy| above dx, number 8.
@@ -83,7 +87,7 @@ fn is_steep(dx: i64, dy: i64) -> bool
 
 // From one coordinate to another.
 fn span(from: i32, to: i32) -> i64
-    requires { ⌜ (outside from ≡ false) × (outside to ≡ false) ⌝ }
+    requires { ⌜ (outside largestSide from ≡ false) × (outside largestSide to ≡ false) ⌝ }
     ensures { λ r. ⌜ (r ≡ to -ℤ from) × (natAbs r ≤ 1023) ⌝ }
 {
     to as i64 - from as i64
@@ -101,12 +105,25 @@ fn direction(dx: i64, dy: i64) -> Levelled
     Levelled::Step(t)
 }
 
-// The step that turns the line from (x1, y1) to (x2, y2) level. It is refused with 7 for a point outside, then with 8 for a line too steep.
-pub fn level(x1: i32, y1: i32, x2: i32, y2: i32) -> Levelled
-    ensures { λ r. ⌜ LevelAnswer x1 y1 x2 y2 r ⌝ }
+// The answer for two points within a width and a height: 7 for a point outside, then 8 for a line too steep, or the step.
+pub fn level_within(width: usize, height: usize, x1: i32, y1: i32, x2: i32, y2: i32) -> Levelled
+    requires { ⌜ (width ≤ largestSide) × (height ≤ largestSide) ⌝ }
+    ensures { λ r. ⌜ LevelAnswer width height x1 y1 x2 y2 r ⌝ }
 {
-    if is_outside(x1) | is_outside(y1) | is_outside(x2) | is_outside(y2) {
+    if is_outside(width, x1)
+        | is_outside(height, y1)
+        | is_outside(width, x2)
+        | is_outside(height, y2)
+    {
         return Levelled::Refused(7);
     }
     direction(span(x1, x2), span(y1, y2))
+}
+
+// The step that turns the line from (x1, y1) to (x2, y2) level, coordinates 0 to 1,023. It is refused with 7 for a point outside, then with 8 for a line
+// too steep.
+pub fn level(x1: i32, y1: i32, x2: i32, y2: i32) -> Levelled
+    ensures { λ r. ⌜ LevelAnswer largestSide largestSide x1 y1 x2 y2 r ⌝ }
+{
+    level_within(LARGEST_SIDE, LARGEST_SIDE, x1, y1, x2, y2)
 }

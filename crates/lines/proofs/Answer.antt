@@ -53,7 +53,7 @@ module _ (n kernel : ℕ) (d : ℤ) (β : Border) (line : List ℤ) (result work
       let four = refusedIf-accepted (beyondOf farthest d) 4 _ (two .1) in
       let five = refusedIf-accepted (badKernel kernel) 5 _ (four .1) in
       let twelve = refusedIf-accepted (badBackground β) 12 _ (five .1) in
-      let six = nothing-bad range n 1 line .0 (ofFound-accepted (firstBad range n 1 line) (twelve .1)) in
+      let six = nothing-bad range n 1 line .0 (ofFound-accepted 6 (firstBad range n 1 line) (twelve .1)) in
       let buffers = or-false (short (length line) n) _ (two .0) in
       let others = or-false (short result n) _ (buffers .1) in
       let side = side-good (one .0) in
@@ -75,7 +75,7 @@ unfolding judged
 zero-accepted n kernel d β line result work =
     by-zero-if (badSide n) 1 _ (λ e. omega arith) (by-zero-if (tooShort n (length line) result work) 2 _ (λ e. omega arith)
     (by-zero-if (beyondOf farthest d) 4 _ (λ e. omega arith) (by-zero-if (badKernel kernel) 5 _ (λ e. omega arith)
-    (by-zero-if (badBackground β) 12 _ (λ e. omega arith) (by-zero-found (firstBad range n 1 line))))))
+    (by-zero-if (badBackground β) 12 _ (λ e. omega arith) (by-zero-found 6 (firstBad range n 1 line) (λ e. omega arith))))))
 
 -- ---- the places of the result that hold the moved line
 module _ {n kernel : ℕ} {d : ℤ} {β : Border} {line₀ : List ℤ} {result work : ℕ} (m : Movable n kernel d β line₀ result work) where

@@ -44,7 +44,7 @@ judged n kernel d β line result work =
     (refusedIf (beyondOf farthest d) 4
     (refusedIf (badKernel kernel) 5
     (refusedIf (badBackground β) 12
-    (ofFound (firstBad range n 1 line))))))
+    (ofFound 6 (firstBad range n 1 line))))))
 
 -- what an accepted call has passed
 pub record Movable (n kernel : ℕ) (d : ℤ) (β : Border) (line : List ℤ) (result work : ℕ) : Type 0 where

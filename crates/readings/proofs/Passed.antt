@@ -20,6 +20,7 @@ use Rattle.readings.specs.Answers.{range, judged, outside, judgedPoint}
 -- a picture has at least one sample and at most 1,024 times 1,024, the shortest buffer of `places` places has room for them, and they are
 -- in their range
 pub record Passed (width height places : ℕ) (picture : List ℤ) : Type 0 where
+  pub sides : (width ≤ 1024) × (height ≤ 1024)
   pub some : 1 ≤ height * width
   pub few : height * width ≤ 1048576
   pub room : height * width ≤ places
@@ -29,15 +30,16 @@ module _ (width height places : ℕ) (picture : List ℤ) where
   pub passed : judged width height places picture ≡ Accepted → Passed width height places picture
   unfolding judged
   passed e =
-      let scan = ofFound (firstBad range width height picture) in
+      let scan = ofFound 6 (firstBad range width height picture) in
       let a = refusedIf-accepted (badSize width height) 1 (refusedIf (short places (height * width)) 2 scan) e in
       let b = refusedIf-accepted (short places (height * width)) 2 scan (a .1) in
       let size = size-good (a .0) in
       record {
+        sides = (size .0 .1, size .1 .1);
         some = mul-pos (size .1 .0) (size .0 .0);
         few = mul-le-mul (size .1 .1) (size .0 .1);
         room = short-good (b .0);
-        within = nothing-bad range width height picture .0 (ofFound-accepted (firstBad range width height picture) (b .1));
+        within = nothing-bad range width height picture .0 (ofFound-accepted 6 (firstBad range width height picture) (b .1));
       }
 
 -- with a point in it

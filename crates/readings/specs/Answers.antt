@@ -13,7 +13,7 @@ use Rattle.lists.specs.Ends.{smallest, largest}
 use Rattle.refusals.specs.declared.Verdict.{Verdict}
 use Rattle.refusals.specs.declared.Verdict.the-variants.{Accepted}
 use Rattle.refusals.specs.Tests.{badSize, short, firstBad}
-use Rattle.refusals.specs.Judging.{refusedIf, ofFound, andThen, numberOf, whenAccepted, isFound, Figures}
+use Rattle.refusals.specs.Judging.{refusedIf, ofFound, andThen, numberOf, whenAccepted, isFound, Figures, underSix}
 use Rattle.readings.specs.declared.Reading.the-variants.{Level}
 use Rattle.readings.specs.declared.ReadingAnswer.{ReadingAnswer}
 use Rattle.readings.specs.declared.SummaryAnswer.{SummaryAnswer}
@@ -28,7 +28,7 @@ unfoldable pub judged : ℕ → ℕ → ℕ → List ℤ → Verdict
 judged width height places picture =
     refusedIf (badSize width height) 1
     (refusedIf (short places (height * width)) 2
-    (ofFound (firstBad range width height picture)))
+    (ofFound 6 (firstBad range width height picture)))
 
 -- 7: a point outside the picture
 unfoldable pub outside : ℕ → ℕ → ℕ → ℕ → Bool
@@ -49,7 +49,7 @@ lowest width height places picture later =
 
 -- the number, the row and the column that document 01 gives v, the verdict on such a call
 abbrev pub Tells : ℕ → ℕ → ℕ → List ℤ → ℕ → Verdict → Type 0
-Tells width height places picture later v = Figures (lowest width height places picture later) (firstBad range width height picture) v
+Tells width height places picture later v = Figures (lowest width height places picture later) (underSix (firstBad range width height picture)) v
 
 -- ---- greys out and floats out
 -- a lent buffer `old` becomes `new`: its first W·H places hold f of the samples, and no other place changes; refused, none does

@@ -94,8 +94,8 @@ fn shorter(a: usize, b: usize) -> usize
     if a < b { a } else { b }
 }
 
-// Numbers 1, 2 and 6. The shortest lent buffer has `places` places.
-fn judge(width: usize, height: usize, places: usize, picture: &[i32]) -> Verdict
+// Numbers 1, 2 and 6 of a call that lends a picture. The shortest lent buffer has `places` places.
+pub fn judge(width: usize, height: usize, places: usize, picture: &[i32]) -> Verdict
     requires { ⌜ places ≤ length (now picture) ⌝ }
     ensures { λ r. ⌜ r ≡ judged width height places (now (picture .entry)) ⌝ }
 {

@@ -14,10 +14,10 @@ pub refusedIf-accepted : (t : Bool) (number : ℕ) (later : Verdict) → refused
 refusedIf-accepted true number later e = let z : _≡_ {A = ℕ} 0 1 = cc in absurd (omega arith)
 refusedIf-accepted false number later e = (refl, e)
 
--- an accepted picture has no sample beyond its range
-pub ofFound-accepted : (f : Found) → ofFound f ≡ Accepted → f ≡ Nothing
-ofFound-accepted Nothing e = refl
-ofFound-accepted (At row column) e = let z : _≡_ {A = ℕ} 0 1 = cc in absurd (omega arith)
+-- where such a test accepts, nothing was found
+pub ofFound-accepted : (number : ℕ) (f : Found) → ofFound number f ≡ Accepted → f ≡ Nothing
+ofFound-accepted number Nothing e = refl
+ofFound-accepted number (At row column) e = let z : _≡_ {A = ℕ} 0 1 = cc in absurd (omega arith)
 
 pub andThen-accepted : (v later : Verdict) → andThen v later ≡ Accepted → (v ≡ Accepted) × (later ≡ Accepted)
 andThen-accepted Accepted later e = (refl, e)
@@ -31,9 +31,9 @@ pub by-zero-if : (t : Bool) (number : ℕ) (later : Verdict) → (number ≡ 0 �
 by-zero-if true number later some z e = absurd (some e)
 by-zero-if false number later some z e = z e
 
-pub by-zero-found : (f : Found) → AcceptedByZero (ofFound f)
-by-zero-found Nothing e = refl
-by-zero-found (At row column) e = absurd (omega arith)
+pub by-zero-found : (number : ℕ) (f : Found) → (number ≡ 0 → ⊥) → AcceptedByZero (ofFound number f)
+by-zero-found number Nothing some e = refl
+by-zero-found number (At row column) some e = absurd (some e)
 
 pub by-zero-then : (v later : Verdict) → AcceptedByZero v → AcceptedByZero later → AcceptedByZero (andThen v later)
 by-zero-then Accepted later some z = z

@@ -14,10 +14,10 @@ abbrev pub refusedIf : Bool → ℕ → Verdict → Verdict
 refusedIf true number later = Refused number 0 0
 refusedIf false number later = later
 
--- number 6 is the only one with a row and a column: those of the sample that was found
-abbrev pub ofFound : Found → Verdict
-ofFound Nothing = Accepted
-ofFound (At row column) = Refused 6 row column
+-- refused under a number that names a sample, by its row and column, where one was found: 6, and 15 of levelling
+abbrev pub ofFound : ℕ → Found → Verdict
+ofFound number Nothing = Accepted
+ofFound number (At row column) = Refused number row column
 
 -- one verdict, and then another: the first stands where it is a refusal
 abbrev pub andThen : Verdict → Verdict → Verdict
@@ -55,8 +55,12 @@ abbrev pub foundColumn : Found → ℕ
 foundColumn Nothing = 0
 foundColumn (At row column) = column
 
--- the figures of a verdict where `lowest` is the lowest number that applies: "row and column are 0 except under 6"
-pub record Figures (lowest : ℕ) (found : Found) (v : Verdict) : Type 0 where
+-- the figures of a verdict where `lowest` is the lowest number that applies, and `named` tells what a number names
+pub record Figures (lowest : ℕ) (named : ℕ → Found) (v : Verdict) : Type 0 where
   pub number : numberOf v ≡ lowest
-  pub row : rowOf v ≡ cond (eqb lowest 6) (foundRow found) 0
-  pub column : columnOf v ≡ cond (eqb lowest 6) (foundColumn found) 0
+  pub row : rowOf v ≡ foundRow (named lowest)
+  pub column : columnOf v ≡ foundColumn (named lowest)
+
+-- "row and column are 0 except under 6"
+abbrev pub underSix : Found → ℕ → Found
+underSix found number = cond (eqb number 6) found Nothing

@@ -1,9 +1,8 @@
 -- The tests behind the numbers that several calls share, each true where its number applies. Assumes nothing.
-use Prim.Native.Nat.{ℕ, suc, _*_, _/_, _%_, _≤_, _<_}
+use Prim.Native.Nat.{ℕ, zero, suc, _*_, _/_, _%_, _≤_, _<_}
 use mathlib.Core.Bool.{Bool, _||_, cond}
-use mathlib.Core.List.{List, [], _∷_}
+use mathlib.Core.List.{List}
 use lib.Dec.{ltb, eqb}
-use lib.ListN.{take}
 use lib.IntN.{ℤ, pos, natAbs}
 use lib.Signed.{_≤ℤ_}
 use Rattle.lists.specs.Line.{line}
@@ -30,14 +29,14 @@ badKernel kernel = ltb 2 kernel
 unfoldable pub beyondOf : ℕ → ℤ → Bool
 beyondOf limit v = ltb limit (natAbs v)
 
--- the first sample of a list that is beyond ±limit, where the list begins at place k of a picture stored row by row
-unfoldable pub firstFrom : ℕ → ℕ → ℕ → List ℤ → Found
-firstFrom limit width k [] = Nothing
-firstFrom limit width k (v ∷ s) = cond (beyondOf limit v) (At (k / width) (k % width)) (firstFrom limit width (suc k) s)
+-- the first of n places, from place k on, at which a test holds, told by the row and the column of that place
+unfoldable pub firstFrom : (ℕ → Bool) → (ℕ → ℕ) → (ℕ → ℕ) → ℕ → ℕ → Found
+firstFrom test row column k zero = Nothing
+firstFrom test row column k (suc n) = cond (test k) (At (row k) (column k)) (firstFrom test row column (suc k) n)
 
--- 6: the first such sample of a picture in row order, with its row and column; a line is a picture of height 1
+-- 6: the first sample of a picture beyond ±limit in row order, with its row and column; a line is a picture of height 1
 unfoldable pub firstBad : ℕ → ℕ → ℕ → List ℤ → Found
-firstBad limit width height picture = firstFrom limit width 0 (take (height * width) picture)
+firstBad limit width height picture = firstFrom (λ k. beyondOf limit (line picture k)) (λ k. k / width) (λ k. k % width) 0 (height * width)
 
 -- the first n samples are within ±limit, as an accepted picture's are; past the end of a list there stands no sample, read as 0
 abbrev pub AllWithin : ℕ → ℕ → List ℤ → Type 0

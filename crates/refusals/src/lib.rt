@@ -91,7 +91,7 @@ pub fn scan(picture: &[i32], width: usize, height: usize, limit: i32) -> Found
 // Number 6, where nothing was refused before: the verdict of the scan.
 pub fn scanned(picture: &[i32], width: usize, height: usize, limit: i32) -> Verdict
     requires { ⌜ (width ≤ 1024) × (height ≤ 1024) × (height * width ≤ length (now picture)) × Limit limit ⌝ }
-    ensures { λ r. ⌜ r ≡ ofFound (firstBad (natAbs limit) width height (now (picture .entry))) ⌝ }
+    ensures { λ r. ⌜ r ≡ ofFound 6 (firstBad (natAbs limit) width height (now (picture .entry))) ⌝ }
 {
     let found = scan(picture, width, height, limit);
     match found {

@@ -18,12 +18,12 @@ enum-known-found c = search needs
 returns : tie.Need-returns
 returns c =
     let e = rw (toZ-ofZ (c .before .before .before .fits .limit)) at (c .before .before .scan .ensures) in
-    ap ofFound (sym (c .enum-told .given .1) ∙ e)
+    ap (ofFound 6) (sym (c .enum-told .given .1) ∙ e)
 
 returns-2 : tie.Need-returns-2
 returns-2 c =
     let e = rw (toZ-ofZ (c .before .before .before .before .fits .limit)) at (c .before .before .before .scan .ensures) in
-    ap ofFound (sym (c .before .found .given .1) ∙ e)
+    ap (ofFound 6) (sym (c .before .found .given .1) ∙ e)
 
 pub scanned-spec : {M : Type 1} → statement M
 scanned-spec = tie.close (tie.spec scan-requires enum-told enum-known-found returns returns-2)

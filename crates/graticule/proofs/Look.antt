@@ -1,0 +1,153 @@
+-- The row that is looked at lies between the rows of the two points, so that every look is inside the picture. Nothing is found just where no looked-at sample is
+-- below the threshold; what is found is the first that is. Assumes nothing.
+use Prim.Native.Nat.{ℕ, suc, _+_, _*_, _-_, _/_, _≤_, _<_, min, max}
+use mathlib.Core.Path.{_≡_, refl, sym, ap, _∙_, subst}
+use mathlib.Core.Bool.{Bool, true, false, true≢false}
+use mathlib.Core.List.{List, [], _∷_, map}
+use mathlib.Core.Logic.{_↔_}
+use native.Mathlib.Nat.{div-lt-iff-lt-mul, le-div-iff-mul-le}
+use native.Mathlib.Omega.{arith}
+use lib.IntN.{ℤ, pos, natAbs, _+ℤ_, _-ℤ_, _*ℤ_}
+use lib.ListN.{getD}
+use lib.Signed.{shrZ, ltZ, _<ℤ_}
+use Rattle.arith.specs.Whole.{floor}
+use Rattle.arith.proofs.Bridge.{bridge, prod}
+use Rattle.arith.proofs.Machine.{lt-true, true-lt}
+use Rattle.refusals.specs.declared.Found.the-variants.{Nothing, At}
+use Rattle.refusals.specs.Tests.{firstFrom}
+use Rattle.refusals.proofs.First.{FirstAt, Spot, nothing-first, first-is}
+use Rattle.graticule.specs.declared.Points.{Points}
+use Rattle.graticule.specs.Look.{rowAt, lookedAt, firstBelow, Below, FirstBelow, Rightward}
+
+-- ---- rows, computed: from (0, 0) to (3, 2) down the screen, and from (0, 2) to (2, 1) up it, where row 3/2 is the half that goes to 2
+rows-down : map (rowAt (record { x1 = 0; y1 = 0; x2 = 3; y2 = 2 })) (0 ∷ 1 ∷ 2 ∷ 3 ∷ []) ≡ pos 0 ∷ pos 1 ∷ pos 1 ∷ pos 2 ∷ []
+unfolding rowAt floor
+rows-down = refl
+
+rows-up : map (rowAt (record { x1 = 0; y1 = 2; x2 = 2; y2 = 1 })) (0 ∷ 1 ∷ 2 ∷ []) ≡ pos 2 ∷ pos 2 ∷ pos 1 ∷ []
+unfolding rowAt floor
+rows-up = refl
+
+-- ---- the row, i columns on and j to go: a mean of the two rows
+mean : ℕ → ℕ → ℕ → ℕ → ℕ
+mean y1 y2 i j = (2 * (y1 * j + y2 * i) + (i + j)) / (2 * (i + j))
+
+apart : (x1 i j : ℕ) → pos (x1 + i + j) -ℤ pos x1 ≡ pos (i + j)
+apart = simp bridge (omega arith)
+
+dividend : (x1 y1 y2 i j : ℕ)
+    → pos 2 *ℤ (pos y1 *ℤ pos (i + j) +ℤ (pos y2 -ℤ pos y1) *ℤ (pos (x1 + i) -ℤ pos x1)) +ℤ pos (i + j) ≡ pos (2 * (y1 * j + y2 * i) + (i + j))
+dividend = simp bridge (omega arith)
+
+row-mean : (x1 y1 y2 i j : ℕ) → pos (mean y1 y2 i j) ≡ rowAt (record { x1 = x1; y1 = y1; x2 = x1 + i + j; y2 = y2 }) (x1 + i)
+unfolding rowAt floor mean
+row-mean x1 y1 y2 i j = rw (apart x1 i j) (ap (λ (z : ℤ). shrZ z (2 * (i + j))) (sym (dividend x1 y1 y2 i j)))
+
+-- a mean lies between what it is made of
+module _ (y1 y2 i j : ℕ) (some : 0 < i + j) where
+  twice : 0 < 2 * (i + j)
+  twice = omega arith
+
+  mean-low : (lo : ℕ) → lo ≤ y1 → lo ≤ y2 → lo ≤ mean y1 y2 i j
+  unfolding mean
+  mean-low lo a b =
+      let left : 0 ≤ i = omega arith in
+      let right : 0 ≤ j = omega arith in
+      le-div-iff-mul-le twice .1 (omega (arith, prod a right, prod b left))
+
+  mean-high : (hi : ℕ) → y1 ≤ hi → y2 ≤ hi → mean y1 y2 i j < suc hi
+  unfolding mean
+  mean-high hi a b =
+      let left : 0 ≤ i = omega arith in
+      let right : 0 ≤ j = omega arith in
+      div-lt-iff-lt-mul twice .1 (omega (arith, prod a right, prod b left))
+
+-- ---- in a column from x1 to x2
+module _ (p : Points) (x : ℕ) (points : Rightward p) (from : p .x1 ≤ x) (to : x ≤ p .x2) where
+  -- the row that the code computes
+  abbrev row : ℕ
+  row = (2 * (p .y1 * (p .x2 - x) + p .y2 * (x - p .x1)) + (p .x2 - p .x1)) / (2 * (p .x2 - p .x1))
+
+  on : p .x1 + (x - p .x1) ≡ x
+  on = omega arith
+
+  end : p .x1 + (x - p .x1) + (p .x2 - x) ≡ p .x2
+  end = omega arith
+
+  all : (x - p .x1) + (p .x2 - x) ≡ p .x2 - p .x1
+  all = omega arith
+
+  pub row-is : pos row ≡ rowAt p x
+  unfolding mean
+  row-is = rw (all, end, on) at (row-mean (p .x1) (p .y1) (p .y2) (x - p .x1) (p .x2 - x))
+
+  -- nothing is lost by writing it as a natural number
+  pub row-natural : natAbs (rowAt p x) ≡ row
+  row-natural = ap natAbs (sym row-is)
+
+  pub row-between : (min (p .y1) (p .y2) ≤ natAbs (rowAt p x)) × (natAbs (rowAt p x) ≤ max (p .y1) (p .y2))
+  unfolding mean
+  row-between =
+      let some : 0 < (x - p .x1) + (p .x2 - x) = omega (arith, points .apart) in
+      let low = mean-low (p .y1) (p .y2) (x - p .x1) (p .x2 - x) some (min (p .y1) (p .y2)) (omega arith) (omega arith) in
+      let high = mean-high (p .y1) (p .y2) (x - p .x1) (p .x2 - x) some (max (p .y1) (p .y2)) (omega arith) (omega arith) in
+      rw (row-natural, ← all) (low, omega (arith, high))
+
+-- the sample there, by that row
+pub looked-is : (width : ℕ) (p : Points) (picture : List ℤ) (y x : ℕ) → pos y ≡ rowAt p x → lookedAt width p picture x ≡ getD picture (y * width + x) (pos 0)
+looked-is width p picture y x e = ap (λ (n : ℕ). getD picture (n * width + x) (pos 0)) (sym (ap natAbs e))
+
+-- ---- what is found
+module _ (width : ℕ) (p : Points) (threshold : ℤ) (picture : List ℤ) (points : Rightward p) where
+  abbrev isBelow : ℕ → Bool
+  isBelow x = ltZ (lookedAt width p picture x) threshold
+
+  abbrev rows : ℕ → ℕ
+  rows x = natAbs (rowAt p x)
+
+  abbrev columns : ℕ → ℕ
+  columns x = x
+
+  abbrev count : ℕ
+  count = suc (p .x2) - p .x1
+
+  -- ---- as the search finds it
+  pub none-found : ((j : ℕ) → p .x1 ≤ j → j ≤ p .x2 → isBelow j ≡ false) → firstBelow width p threshold picture ≡ Nothing
+  unfolding firstBelow
+  none-found h = nothing-first isBelow rows columns (p .x1) count .1 (λ j a b. h j a (omega arith))
+
+  pub one-found : (y x : ℕ) → p .x1 ≤ x → x ≤ p .x2 → ((j : ℕ) → p .x1 ≤ j → j < x → isBelow j ≡ false) → isBelow x ≡ true → pos y ≡ rowAt p x
+      → firstBelow width p threshold picture ≡ At y x
+  unfolding firstBelow
+  one-found y x from to earlier here row =
+      first-is isBelow rows columns (p .x1) count y x .1
+      (record { place = x; first = record { from = from; inside = omega arith; earlier = earlier; here = here }; row-is = ap natAbs row; column-is = refl })
+
+  -- ---- and what that says
+  -- nothing just where no looked-at sample is below the threshold
+  pub nothing-below : firstBelow width p threshold picture ≡ Nothing ↔ ((x : ℕ) → ¬ Below width p threshold picture x)
+  unfolding firstBelow
+  nothing-below = (
+    λ e x b. true≢false (sym (true-lt _ _ (b .below)) ∙ nothing-first isBelow rows columns (p .x1) count .0 e x (b .from) (omega (arith, b .to, b .from))),
+    λ none. none-found (λ j a l. by j a l (isBelow j) refl none),
+  )
+    where
+      by : (j : ℕ) → p .x1 ≤ j → j ≤ p .x2 → (t : Bool) → isBelow j ≡ t → ((x : ℕ) → ¬ Below width p threshold picture x) → isBelow j ≡ false
+      by j a l true e none = absurd (none j (record { from = a; to = l; below = lt-true _ _ e }))
+      by j a l false e none = e
+
+  -- a row and a column just where they hold the first that is
+  pub first-below : (height y x : ℕ) → max (p .y1) (p .y2) < height → p .x2 < width → firstBelow width p threshold picture ≡ At y x
+      → FirstBelow width height p threshold picture y x
+  unfolding firstBelow
+  first-below height y x high wide e =
+      let s = first-is isBelow rows columns (p .x1) count y x .0 e in
+      let f = s .first in
+      let to : s .place ≤ p .x2 = omega (arith, f .inside, f .from) in
+      let b = row-between p (s .place) points (f .from) to .1 in
+      rw (s .column-is) (record {
+        here = record { from = f .from; to = to; below = lt-true _ _ (f .here) };
+        row = ap pos (s .row-is ∙ row-natural p (s .place) points (f .from) to) ∙ row-is p (s .place) points (f .from) to;
+        earlier = λ j l b. true≢false (sym (true-lt _ _ (b .below)) ∙ f .earlier j (b .from) l);
+        inside = (omega (arith, s .row-is, b, high), omega (arith, to, wide));
+      })
