@@ -10,7 +10,7 @@ of-verdict-requires : tie.Need-of-verdict-requires
 of-verdict-requires c κs = search needs
 
 returns : tie.Need-returns
-returns c = ?
+returns c = rw (c .before .of-verdict .ensures, read-back w32 (c .before .before .args .checked .step) (c .struct-told .given .1 .0 .1)) refl
 
 pub of-checked-spec : {M : Type 1} → statement M
 of-checked-spec = tie.close (tie.spec of-verdict-requires returns)
