@@ -33,61 +33,55 @@ use Rattle.graticule.specs.declared.Points.{Points}
 use Rattle.graticule.specs.declared.Checked.{Checked}
 use Rattle.graticule.specs.Look.{rowAt, firstBelow, Below, FirstBelow, Rightward, Lie}
 use Rattle.graticule.specs.Checked.{pointsOf, judgedPoints, judgedOthers, judgedLine, checkedBy, checkedOf, lowestOf, named, LevelChecked}
-use Rattle.graticule.proofs.Look.{nothing-below, first-below}
+use Rattle.graticule.proofs.Look.{small, nothing-below, first-below}
 
--- ---- a picture 4 wide and 3 high. The line from (0, 0) to (3, 2) looks at 9, -1, 5 and 1, the one from (1, 2) to (3, 2) at 9, 9 and 1
-abbrev small : List ℤ
-small = pos 9 ∷ pos 8 ∷ pos 7 ∷ pos 6 ∷ pos 5 ∷ negsuc 0 ∷ pos 5 ∷ pos 2 ∷ pos 9 ∷ pos 9 ∷ pos 9 ∷ pos 1 ∷ []
-
-abbrev down : ℤ → Checked
-down threshold = checkedOf 4 3 (pos 0) (pos 0) (pos 3) (pos 2) threshold small
-
-abbrev across : ℤ → Checked
-across threshold = checkedOf 4 3 (pos 1) (pos 2) (pos 3) (pos 2) threshold small
-
+-- ---- answers, computed
 abbrev stepped : ℤ → Checked
 stepped t = record { verdict = Accepted; step = t }
 
 abbrev refusedAs : ℕ → ℕ → ℕ → Checked
 refusedAs number row column = record { verdict = Refused number row column; step = pos 0 }
 
--- -1 in row 1 and column 1 is the first below 0, 9 in row 0 and column 0 the first below 10 and below the largest number of 32 bits; none is below the smallest
-first-named : down (pos 0) ∷ down (pos 10) ∷ down (pos 2147483647) ∷ [] ≡ refusedAs 15 1 1 ∷ refusedAs 15 0 0 ∷ refusedAs 15 0 0 ∷ []
+-- from (0, 0) to (3, 2), where a sample is below the threshold, the step is 0; where none is, it is the plain call's
+answer-refused : checkedOf 4 3 (pos 0) (pos 0) (pos 3) (pos 2) (pos 0) small ≡ refusedAs 15 1 1
 unfolding checkedOf judgedLine judgedOthers judgedPoints judged badSize badSide short firstBad firstFrom beyondOf anyOutside outside steep firstBelow rowAt floor
-first-named = refl
+answer-refused = refl
 
-none-named : down (negsuc 2147483647) ≡ stepped (negsuc 1239)
+answer-step : checkedOf 4 3 (pos 0) (pos 0) (pos 3) (pos 2) (negsuc 2147483647) small ≡ stepped (negsuc 1239)
 unfolding checkedOf judgedLine judgedOthers judgedPoints judged badSize badSide short firstBad firstFrom beyondOf anyOutside outside steep firstBelow rowAt floor levelling firstSmallest missAt miss stepAt
-none-named = refl
+answer-step = refl
 
--- 1 in the column of x2 is below 2, and not below 1
-last-column : across (pos 2) ≡ refusedAs 15 2 3
-unfolding checkedOf judgedLine judgedOthers judgedPoints judged badSize badSide short firstBad firstFrom beyondOf anyOutside outside steep firstBelow rowAt floor
-last-column = refl
-
-at-threshold : across (pos 1) ≡ stepped (pos 0)
-unfolding checkedOf judgedLine judgedOthers judgedPoints judged badSize badSide short firstBad firstFrom beyondOf anyOutside outside steep firstBelow rowAt floor levelling firstSmallest missAt miss stepAt
-at-threshold = refl
-
--- everything is wrong, and then one number after the other is mended: a size, the places, a sample, a point outside this picture, a steep line, the threshold
+-- everything is wrong, and then one number after the other is mended: a side, the places, a sample, points outside this picture, lines too steep
 abbrev bad-first : List ℤ
 bad-first = pos 1048577 ∷ negsuc 0 ∷ pos 5 ∷ pos 2 ∷ pos 9 ∷ pos 9 ∷ []
 
 abbrev good : List ℤ
 good = pos 1048576 ∷ negsuc 0 ∷ pos 5 ∷ pos 2 ∷ pos 9 ∷ pos 9 ∷ []
 
+abbrev in-order : ℕ → ℤ → ℤ → ℤ → List ℤ → Checked
+in-order width y1 x2 y2 picture = checkedOf width 3 (pos 0) y1 x2 y2 (pos 2147483647) picture
+
 order :
-    checkedOf 0 3 (pos 0) (negsuc 0) (pos 0) (pos 2) (pos 6) []
-    ∷ checkedOf 2 3 (pos 0) (negsuc 0) (pos 0) (pos 2) (pos 6) []
-    ∷ checkedOf 2 3 (pos 0) (negsuc 0) (pos 0) (pos 2) (pos 6) bad-first
-    ∷ checkedOf 2 3 (pos 0) (negsuc 0) (pos 0) (pos 2) (pos 6) good
-    ∷ checkedOf 2 3 (pos 0) (pos 0) (pos 2) (pos 0) (pos 6) good
-    ∷ checkedOf 2 3 (pos 0) (pos 0) (pos 1) (pos 3) (pos 6) good
-    ∷ checkedOf 2 3 (pos 0) (pos 0) (pos 1) (pos 2) (pos 6) good
-    ∷ checkedOf 2 3 (pos 0) (pos 0) (pos 0) (pos 0) (pos 6) good
-    ∷ checkedOf 2 3 (pos 0) (pos 0) (pos 1) (pos 0) (pos 6) good
+    in-order 0 (negsuc 0) (pos 0) (pos 2) []
+    ∷ in-order 2 (negsuc 0) (pos 0) (pos 2) []
+    ∷ in-order 2 (negsuc 0) (pos 0) (pos 2) bad-first
+    ∷ in-order 2 (negsuc 0) (pos 0) (pos 2) good
+    ∷ in-order 2 (pos 0) (pos 2) (pos 0) good
+    ∷ in-order 2 (pos 0) (pos 1) (pos 3) good
+    ∷ in-order 2 (pos 0) (pos 1) (pos 2) good
+    ∷ in-order 2 (pos 0) (pos 0) (pos 0) good
+    ∷ in-order 2 (pos 0) (pos 1) (pos 1) good
     ∷ []
-    ≡ refusedAs 1 0 0 ∷ refusedAs 2 0 0 ∷ refusedAs 6 0 0 ∷ refusedAs 7 0 0 ∷ refusedAs 7 0 0 ∷ refusedAs 7 0 0 ∷ refusedAs 8 0 0 ∷ refusedAs 8 0 0 ∷ refusedAs 15 0 1 ∷ []
+    ≡ refusedAs 1 0 0
+    ∷ refusedAs 2 0 0
+    ∷ refusedAs 6 0 0
+    ∷ refusedAs 7 0 0
+    ∷ refusedAs 7 0 0
+    ∷ refusedAs 7 0 0
+    ∷ refusedAs 8 0 0
+    ∷ refusedAs 8 0 0
+    ∷ refusedAs 15 0 0
+    ∷ []
 unfolding checkedOf judgedLine judgedOthers judgedPoints judged badSize badSide short firstBad firstFrom beyondOf anyOutside outside steep firstBelow rowAt floor
 order = refl
 

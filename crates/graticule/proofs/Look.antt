@@ -7,7 +7,7 @@ use mathlib.Core.List.{List, [], _∷_, map}
 use mathlib.Core.Logic.{_↔_}
 use native.Mathlib.Nat.{div-lt-iff-lt-mul, le-div-iff-mul-le}
 use native.Mathlib.Omega.{arith}
-use lib.IntN.{ℤ, pos, natAbs, _+ℤ_, _-ℤ_, _*ℤ_}
+use lib.IntN.{ℤ, pos, negsuc, natAbs, _+ℤ_, _-ℤ_, _*ℤ_}
 use lib.ListN.{getD}
 use lib.Signed.{shrZ, ltZ, _<ℤ_}
 use Rattle.arith.specs.Whole.{floor}
@@ -19,14 +19,36 @@ use Rattle.refusals.proofs.First.{FirstAt, Spot, nothing-first, first-is}
 use Rattle.graticule.specs.declared.Points.{Points}
 use Rattle.graticule.specs.Look.{rowAt, lookedAt, firstBelow, Below, FirstBelow, Rightward}
 
--- ---- rows, computed: from (0, 0) to (3, 2) down the screen, and from (0, 2) to (2, 1) up it, where row 3/2 is the half that goes to 2
-rows-down : map (rowAt (record { x1 = 0; y1 = 0; x2 = 3; y2 = 2 })) (0 ∷ 1 ∷ 2 ∷ 3 ∷ []) ≡ pos 0 ∷ pos 1 ∷ pos 1 ∷ pos 2 ∷ []
+-- ---- rows, computed: down the screen from (0, 0) to (3, 2), up it from (0, 2) to (2, 1), and from (0, 0) to (2, 1). A half goes down: 3/2 to row 2, 1/2 to row 1
+abbrev down : Points
+down = record { x1 = 0; y1 = 0; x2 = 3; y2 = 2 }
+
+rows-down : map (rowAt down) (0 ∷ 1 ∷ 2 ∷ 3 ∷ []) ≡ pos 0 ∷ pos 1 ∷ pos 1 ∷ pos 2 ∷ []
 unfolding rowAt floor
 rows-down = refl
 
 rows-up : map (rowAt (record { x1 = 0; y1 = 2; x2 = 2; y2 = 1 })) (0 ∷ 1 ∷ 2 ∷ []) ≡ pos 2 ∷ pos 2 ∷ pos 1 ∷ []
 unfolding rowAt floor
 rows-up = refl
+
+rows-half : map (rowAt (record { x1 = 0; y1 = 0; x2 = 2; y2 = 1 })) (0 ∷ 1 ∷ 2 ∷ []) ≡ pos 0 ∷ pos 1 ∷ pos 1 ∷ []
+unfolding rowAt floor
+rows-half = refl
+
+-- ---- what is found in a picture 4 wide and 3 high, computed
+abbrev pub small : List ℤ
+small = pos 9 ∷ pos 8 ∷ pos 7 ∷ pos 6 ∷ pos 5 ∷ negsuc 0 ∷ pos 5 ∷ pos 2 ∷ pos 9 ∷ pos 9 ∷ pos 9 ∷ pos 1 ∷ []
+
+-- of 9, -1, 5 and 1 the second is the first below 0, the first is it below 10 and below the largest number of 32 bits, and none is below the smallest
+found-down :
+    map (λ (t : ℤ). firstBelow 4 down t small) (pos 0 ∷ pos 10 ∷ pos 2147483647 ∷ negsuc 2147483647 ∷ []) ≡ At 1 1 ∷ At 0 0 ∷ At 0 0 ∷ Nothing ∷ []
+unfolding firstBelow firstFrom rowAt floor
+found-down = refl
+
+-- from (1, 2) to (3, 2), of 9, 9 and 1 the last, in the column of x2, is below 2 and not below 1
+found-across : map (λ (t : ℤ). firstBelow 4 (record { x1 = 1; y1 = 2; x2 = 3; y2 = 2 }) t small) (pos 2 ∷ pos 1 ∷ []) ≡ At 2 3 ∷ Nothing ∷ []
+unfolding firstBelow firstFrom rowAt floor
+found-across = refl
 
 -- ---- the row, i columns on and j to go: a mean of the two rows
 mean : ℕ → ℕ → ℕ → ℕ → ℕ

@@ -2,6 +2,7 @@
 use Prim.Native.Nat.{ℕ, zero, suc, _≤_}
 use mathlib.Core.Path.{_≡_, refl, sym, ap, _∙_, subst}
 use mathlib.Core.Bool.{Bool, true, false, cond, _||_, or-assoc, or-self, or-true, or-false}
+use mathlib.Core.List.{[], _∷_, map}
 use native.Mathlib.Omega.{arith}
 use lib.Dec.{ltb}
 use lib.IntN.{ℤ, pos, negsuc, negℤ, natAbs, _+ℤ_, _-ℤ_, +ℤ-idl}
@@ -16,6 +17,14 @@ use Rattle.levelling.specs.Search.{Flat}
 use Rattle.levelling.specs.declared.Levelled.{Levelled}
 use Rattle.levelling.specs.declared.Levelled.the-variants.{Step, Refused}
 use Rattle.levelling.proofs.Levelling.{levelled-least}
+
+-- ---- in a picture 4 wide and 3 high a point is outside from column 4 and from row 3 on, computed
+sides :
+    map (λ (p : ℤ × ℤ). anyOutside 4 3 (pos 0) (pos 0) (p .0) (p .1))
+    ((pos 3, pos 2) ∷ (pos 4, pos 0) ∷ (pos 3, pos 3) ∷ (negsuc 0, pos 0) ∷ (pos 0, negsuc 0) ∷ [])
+    ≡ false ∷ true ∷ true ∷ true ∷ true ∷ []
+unfolding anyOutside outside
+sides = refl
 
 -- ---- number 7
 pub inside : (side : ℕ) (c : ℤ) → outside side c ≡ false → (pos 0 ≤ℤ c) × (c <ℤ pos side)
