@@ -14,7 +14,7 @@
  *                   straightener_work_places, straightener_move_line, straightener_line_work_places
  * Settings, steps   straightener_with_kernel, straightener_with_centre, straightener_with_shears,
  *                   straightener_with_border, straightener_with_step, straightener_sine,
- *                   straightener_level
+ *                   straightener_level, straightener_level_checked
  * Readings          straightener_greys_out, straightener_floats_out, straightener_reading,
  *                   straightener_summary
  * Line format       straightener_answer_line
@@ -43,9 +43,9 @@
 #include <stdint.h>
 
 /* The version of this header, as text and as its parts. */
-#define STRAIGHTENER_VERSION "0.6.0"
+#define STRAIGHTENER_VERSION "0.7.0"
 #define STRAIGHTENER_VERSION_MAJOR 0
-#define STRAIGHTENER_VERSION_MINOR 6
+#define STRAIGHTENER_VERSION_MINOR 7
 #define STRAIGHTENER_VERSION_PATCH 0
 
 #ifdef __cplusplus
@@ -65,7 +65,8 @@ enum {
     STRAIGHTENER_REFUSED_SLOPE = 8,
     STRAIGHTENER_REFUSED_LINE = 9,
     STRAIGHTENER_REFUSED_BACKGROUND = 12,
-    STRAIGHTENER_REFUSED_TICKET = 14
+    STRAIGHTENER_REFUSED_TICKET = 14,
+    STRAIGHTENER_REFUSED_THRESHOLD = 15
 };
 
 /*
@@ -92,9 +93,10 @@ static inline const char *straightener_words(uint32_t number)
         return "the kernel must be 0 (linear), 1 (Keys) or 2 (cubic spline)";
     case STRAIGHTENER_REFUSED_SAMPLE:
         return "a sample, or the largest sample size given for a forecast, lies beyond its range, which is 32,767 "
-               "units to either side of 0 for straightening, 294,912 for a single line and 1,048,576 for readings";
+               "units to either side of 0 for straightening, 294,912 for a single line, and 1,048,576 for readings and "
+               "for levelling with a picture";
     case STRAIGHTENER_REFUSED_POINT:
-        return "the point lies outside the picture; for levelling, coordinates must be from 0 to 1,023";
+        return "a point lies outside the picture; for levelling without a picture, coordinates must be from 0 to 1,023";
     case STRAIGHTENER_REFUSED_SLOPE:
         return "the second point must lie to the right of the first, and no steeper than 45 degrees from it";
     case STRAIGHTENER_REFUSED_LINE:
@@ -106,6 +108,9 @@ static inline const char *straightener_words(uint32_t number)
     case STRAIGHTENER_REFUSED_TICKET:
         return "the width or the height differs from the ticket's: ask again about this picture; the ticket of a "
                "refused asking is of no size";
+    case STRAIGHTENER_REFUSED_THRESHOLD:
+        return "a sample on the line between the two points is below the threshold: the points are not on one "
+               "graticule line, or the threshold is too high";
     default:
         return "a number that this header has no words for";
     }
@@ -215,6 +220,20 @@ typedef struct {
     uint32_t number;
     int32_t value;
 } straightener_step;
+
+/*
+ * What levelling with a picture answers.
+ *   number       0, or the refusal number
+ *   row, column  under number 6 the place of the first sample beyond the range, under number 15 the place of
+ *                the leftmost sample on the line that is below the threshold, else 0
+ *   step         the step; 0 where refused
+ */
+typedef struct {
+    uint32_t number;
+    size_t row;
+    size_t column;
+    int32_t step;
+} straightener_checked_step;
 
 /*
  * A reading at a point.
@@ -403,6 +422,28 @@ straightener_step straightener_sine(int32_t t);
  * Refuses under 7, 8; 8 is where x2 - x1 is below 1 or |y2 - y1| is above it, which is 45 degrees.
  */
 straightener_step straightener_level(int32_t x1, int32_t y1, int32_t x2, int32_t y2);
+
+/*
+ * The step that straightener_level answers, where no sample on the line through the two points is below a
+ * threshold: for points that may have been set on a trace, or beside the graticule, by mistake. In every column
+ * x from x1 to x2, both included, the sample in row (2 * (y1 * dx + dy * (x - x1)) + dx) / (2 * dx), rounded
+ * down, is looked at, where dx is x2 - x1 and dy is y2 - y1: the row nearest to the line, of two that are as
+ * near the lower on the screen. It lies between y1 and y2.
+ *   width, height  1 to 1,024
+ *   x1, y1         column and row of the left point; the column below the width, the row below the height
+ *   x2, y2         column and row of the right point, within the picture likewise
+ *   threshold      any number, in units of 1/128 grey; INT32_MIN refuses no line, and with INT32_MAX every one
+ *                  is refused
+ *   picture        at least width * height places; samples within +-1,048,576
+ * Refuses under 1, 2, 6, 7, 8, 15, where 7 is a point outside this picture, 8 is as for straightener_level, and
+ * 15 is a sample on the line that is below the threshold: refused under no other number, the call is refused
+ * under 15 just where there is one, and names the leftmost. Every sample of the picture is judged for 6, also
+ * those beside the line.
+ */
+straightener_checked_step straightener_level_checked(size_t width, size_t height,
+                                                     int32_t x1, int32_t y1, int32_t x2, int32_t y2,
+                                                     int32_t threshold,
+                                                     const int32_t *picture, size_t picture_len);
 
 /*
  * Turns samples into greys: (v + 64)/128 rounded down, held to 0 to 255 and not to 16 to 235.

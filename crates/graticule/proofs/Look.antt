@@ -10,8 +10,9 @@ use native.Mathlib.Omega.{arith}
 use lib.IntN.{ℤ, pos, negsuc, natAbs, _+ℤ_, _-ℤ_, _*ℤ_}
 use lib.ListN.{getD}
 use lib.Signed.{shrZ, ltZ, _<ℤ_}
-use Rattle.arith.specs.Whole.{floor}
+use Rattle.arith.specs.Whole.{floor, round}
 use Rattle.arith.proofs.Bridge.{bridge, prod}
+use Rattle.arith.proofs.Round.{round-error}
 use Rattle.arith.proofs.Machine.{lt-true, true-lt}
 use Rattle.refusals.specs.declared.Found.the-variants.{Nothing, At}
 use Rattle.refusals.specs.Tests.{firstFrom}
@@ -65,6 +66,9 @@ row-mean : (x1 y1 y2 i j : ℕ) → pos (mean y1 y2 i j) ≡ rowAt (record { x1 
 unfolding rowAt floor mean
 row-mean x1 y1 y2 i j = rw (apart x1 i j) (ap (λ (z : ℤ). shrZ z (2 * (i + j))) (sym (dividend x1 y1 y2 i j)))
 
+difference : (a b : ℕ) → a ≤ b → pos b -ℤ pos a ≡ pos (b - a)
+difference = simp bridge (omega arith)
+
 -- a mean lies between what it is made of
 module _ (y1 y2 i j : ℕ) (some : 0 < i + j) where
   twice : 0 < 2 * (i + j)
@@ -114,6 +118,20 @@ module _ (p : Points) (x : ℕ) (points : Rightward p) (from : p .x1 ≤ x) (to 
       let low = mean-low (p .y1) (p .y2) (x - p .x1) (p .x2 - x) some (min (p .y1) (p .y2)) (omega arith) (omega arith) in
       let high = mean-high (p .y1) (p .y2) (x - p .x1) (p .x2 - x) some (max (p .y1) (p .y2)) (omega arith) (omega arith) in
       rw (row-natural, ← all) (low, omega (arith, high))
+
+  -- no row is nearer to the line: dx times it is off y1·dx + dy·(x - x1) by half of dx at most
+  abbrev dx : ℕ
+  dx = p .x2 - p .x1
+
+  abbrev height : ℤ
+  height = pos (p .y1) *ℤ pos dx +ℤ (pos (p .y2) -ℤ pos (p .y1)) *ℤ (pos x -ℤ pos (p .x1))
+
+  row-rounded : rowAt p x ≡ round height dx
+  unfolding rowAt round
+  row-rounded = rw (difference (p .x1) (p .x2) (omega (arith, points .apart))) refl
+
+  pub row-nearest : 2 * natAbs (pos dx *ℤ rowAt p x -ℤ height) ≤ dx
+  row-nearest = rw row-rounded (round-error height dx (omega (arith, points .apart)))
 
 -- the sample there, by that row
 pub looked-is : (width : ℕ) (p : Points) (picture : List ℤ) (y x : ℕ) → pos y ≡ rowAt p x → lookedAt width p picture x ≡ getD picture (y * width + x) (pos 0)

@@ -29,7 +29,7 @@ badKernel kernel = ltb 2 kernel
 unfoldable pub beyondOf : ℕ → ℤ → Bool
 beyondOf limit v = ltb limit (natAbs v)
 
--- the first of n places, from place k on, at which a test holds, told by the row and the column of that place
+-- the first of n places, from place k on, at which a test holds, told by its row and its column
 unfoldable pub firstFrom : (ℕ → Bool) → (ℕ → ℕ) → (ℕ → ℕ) → ℕ → ℕ → Found
 firstFrom test row column k zero = Nothing
 firstFrom test row column k (suc n) = cond (test k) (At (row k) (column k)) (firstFrom test row column (suc k) n)

@@ -7,13 +7,13 @@ ghost use lib.IntN.{natAbs};
 ghost use Rattle.refusals.specs.Tests.{badSide, badSize, beyondOf, firstBad, AllWithin, Limit};
 ghost use Rattle.refusals.specs.Judging.{ofFound};
 
-// What the tests say of a call: accepted, or refused under a number, with a row and a column that are 0 except under 6.
+// What the tests say of a call: accepted, or refused under a number, with a row and a column that are 0 where the number names no sample.
 pub enum Verdict {
     Accepted,
     Refused(u32, usize, usize),
 }
 
-// What a scan finds: nothing, or the row and the column of the first sample beyond its range.
+// What is found of the samples that a number is about: nothing, or the row and the column of the first.
 pub enum Found {
     Nothing,
     At(usize, usize),

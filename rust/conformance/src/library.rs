@@ -134,6 +134,18 @@ impl Implementation for Library {
         (step.number, step.value)
     }
 
+    fn level_checked(
+        &self,
+        (width, height): (usize, usize),
+        [x1, y1, x2, y2]: [i32; 4],
+        threshold: i32,
+        picture: &[i32],
+    ) -> (Answer, i32) {
+        let raw::CheckedStep { number, row, column, step } =
+            raw::level_checked(width, height, x1, y1, x2, y2, threshold, picture);
+        (Answer::of(number, row, column, 0), step)
+    }
+
     fn greys_out(&self, (width, height): (usize, usize), picture: &[i32], greys: &mut [u8]) -> Answer {
         unmoved(raw::greys_out(width, height, picture, greys))
     }

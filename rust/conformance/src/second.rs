@@ -111,6 +111,17 @@ impl Implementation for Second {
         stepped(second::level(x1, y1, x2, y2))
     }
 
+    fn level_checked(
+        &self,
+        size: (usize, usize),
+        points: [i32; 4],
+        threshold: i32,
+        picture: &[i32],
+    ) -> (Answer, i32) {
+        let outcome = second::level_checked(size, points, threshold, picture);
+        (answer(outcome.map(|_| 0)), outcome.unwrap_or(0))
+    }
+
     fn greys_out(&self, (width, height): (usize, usize), picture: &[i32], greys: &mut [u8]) -> Answer {
         answer(second::greys_out(width, height, picture, greys).map(|()| 0))
     }

@@ -13,10 +13,11 @@ const PRINTED: &str = "lines: 14 as the document has them\n\
                        tickets: 4 lines asked, 4 committed\n\
                        forecast: 36 work places, 4 lines, samples from -195 to 195\n\
                        lower row: wrapped 30 90 10 20, on background -1 -1 10 20\n\
-                       refusals: 1 2 3 4 5 6 7 8 9 12 14\n\
+                       refusals: 1 2 3 4 5 6 7 8 9 12 14 15\n\
                        settings: kernel 2, column 13, row 14, shears 11 and 12, border 1 of -15\n\
                        steps: S(1) = 2, S(1000) = 1887, S(1697) = 2897\n\
                        levelling: -20, -1697\n\
+                       line under two points: row 1, column 1 is below; step -1240\n\
                        readings: Under 16.5, Level 17, Over 21; darkest -0.5, lightest 256\n\
                        from black to white: 0.0078125 16 235 0.0078125\n\
                        line format: 0000000001000100004000\n\

@@ -223,6 +223,39 @@ fn every_slope_of_a_short_graticule_line() {
     }
 }
 
+/// A picture, two points and a threshold, of which anything may be wrong.
+fn hostile_levelling(numbers: &mut Numbers) -> ((usize, usize), [i32; 4], i32, Vec<i32>) {
+    let (size, picture) = hostile_reading(numbers);
+    // Points in the picture as it was made, or nearly so, the second mostly to the right of the first and no steeper
+    // than 45 degrees.
+    let mut point = [2, 4, 2, 4].map(|side| numbers.below(side) as i32);
+    if !numbers.once_in(4) {
+        point[2] = point[0] + 1 + numbers.below(2) as i32;
+        point[3] = point[1] + numbers.within(point[2] - point[0]);
+    }
+    if numbers.once_in(12) {
+        let place = numbers.below(4);
+        point[place] = numbers.one_of(&[-1, 6, 1_023, 1_024, i32::MIN, i32::MAX]);
+    }
+    let any = picture.get(numbers.below(36)).copied().unwrap_or(0);
+    let threshold = numbers.one_of(&[i32::MIN, -1_048_576, -300, 0, any, any.saturating_add(1), i32::MAX]);
+    (size, point, threshold, picture)
+}
+
+#[test]
+fn hostile_levellings() {
+    let (mut numbers, mut seen) = (Numbers::seeded(33), [0; 16]);
+    for _ in 0..20_000 {
+        let (size, points, threshold, picture) = hostile_levelling(&mut numbers);
+        let told = Library.level_checked(size, points, threshold, &picture);
+        let second = Second.level_checked(size, points, threshold, &picture);
+        assert_eq!(told, second, "{size:?} {points:?} {threshold} {picture:?}");
+        seen[told.0.number as usize] += 1;
+    }
+    assert!([0, 1, 2, 6, 7, 8, 15].iter().all(|&number| seen[number] > 300), "{seen:?}");
+    assert!([3, 4, 5, 9, 12, 14].iter().all(|&number| seen[number] == 0), "{seen:?}");
+}
+
 /// A picture for the readings, of which anything may be wrong.
 fn hostile_reading(numbers: &mut Numbers) -> ((usize, usize), Vec<i32>) {
     let mut size = (1 + numbers.below(6), 1 + numbers.below(6));

@@ -205,6 +205,7 @@ fn structs_are_laid_out_alike() {
         layout!(ForecastAnswer: number row column work count bound),
         layout!(Change: number setting),
         layout!(Step: number value),
+        layout!(CheckedStep: number row column step),
         layout!(ReadingAnswer: number row column kind greys),
         layout!(LineAnswer: number written),
         layout!(SummaryAnswer: number row column darkest lightest),

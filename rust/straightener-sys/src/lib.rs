@@ -20,7 +20,7 @@ pub const STRAIGHTENER_REFUSED_CENTRE: u32 = 3;
 pub const STRAIGHTENER_REFUSED_SHEAR: u32 = 4;
 /// Refusal of a kernel.
 pub const STRAIGHTENER_REFUSED_KERNEL: u32 = 5;
-/// Refusal of a sample, the only one that comes with a row and a column.
+/// Refusal of a sample beyond its range, by its row and column.
 pub const STRAIGHTENER_REFUSED_SAMPLE: u32 = 6;
 /// Refusal of a point.
 pub const STRAIGHTENER_REFUSED_POINT: u32 = 7;
@@ -32,6 +32,8 @@ pub const STRAIGHTENER_REFUSED_LINE: u32 = 9;
 pub const STRAIGHTENER_REFUSED_BACKGROUND: u32 = 12;
 /// Refusal of a ticket of another size.
 pub const STRAIGHTENER_REFUSED_TICKET: u32 = 14;
+/// Refusal of a line by a sample below the threshold, by its row and column.
+pub const STRAIGHTENER_REFUSED_THRESHOLD: u32 = 15;
 
 /// The kernel of the two nearest samples.
 pub const STRAIGHTENER_LINEAR: u32 = 0;
@@ -164,6 +166,20 @@ pub struct straightener_step {
     pub value: i32,
 }
 
+/// What levelling with a picture answers.
+#[repr(C)]
+#[derive(Clone, Copy, Debug, PartialEq, Eq)]
+pub struct straightener_checked_step {
+    /// 0, or the refusal number.
+    pub number: u32,
+    /// Row of the first sample beyond the range under number 6, of the leftmost below the threshold under 15, else 0.
+    pub row: usize,
+    /// Column of that sample, else 0.
+    pub column: usize,
+    /// The step, 0 where refused.
+    pub step: i32,
+}
+
 /// A reading at a point.
 #[repr(C)]
 #[derive(Clone, Copy, Debug, PartialEq)]
@@ -273,6 +289,12 @@ extern "C" {
 
     /// The step that levels the graticule line through two points.
     pub fn straightener_level(x1: i32, y1: i32, x2: i32, y2: i32) -> straightener_step;
+
+    /// That step, where no sample on the line is below a threshold.
+    pub fn straightener_level_checked(
+        width: usize, height: usize, x1: i32, y1: i32, x2: i32, y2: i32, threshold: i32,
+        picture: *const i32, picture_len: usize,
+    ) -> straightener_checked_step;
 
     /// The samples as greys.
     pub fn straightener_greys_out(

@@ -8,10 +8,10 @@ use straightener_sys as sys;
 
 pub use straightener_sys::{
     straightener_answer as Answer, straightener_asked as Asked, straightener_change as Change,
-    straightener_forecast_answer as ForecastAnswer, straightener_line_answer as LineAnswer,
-    straightener_reading_answer as ReadingAnswer, straightener_setting as Setting, straightener_step as Step,
-    straightener_summary_answer as SummaryAnswer, straightener_ticket as Ticket,
-    STRAIGHTENER_LONGEST_ANSWER as LONGEST_ANSWER,
+    straightener_checked_step as CheckedStep, straightener_forecast_answer as ForecastAnswer,
+    straightener_line_answer as LineAnswer, straightener_reading_answer as ReadingAnswer,
+    straightener_setting as Setting, straightener_step as Step, straightener_summary_answer as SummaryAnswer,
+    straightener_ticket as Ticket, STRAIGHTENER_LONGEST_ANSWER as LONGEST_ANSWER,
 };
 
 // Each call below hands over slices whole: they are valid for their lengths and, being borrowed, do not
@@ -183,6 +183,23 @@ pub fn sine(t: i32) -> Step {
 pub fn level(x1: i32, y1: i32, x2: i32, y2: i32) -> Step {
     // SAFETY: plain values.
     unsafe { sys::straightener_level(x1, y1, x2, y2) }
+}
+
+/// That step, where no sample on the line is below a threshold.
+#[allow(clippy::too_many_arguments)]
+pub fn level_checked(
+    width: usize,
+    height: usize,
+    x1: i32,
+    y1: i32,
+    x2: i32,
+    y2: i32,
+    threshold: i32,
+    picture: &[i32],
+) -> CheckedStep {
+    let (picture, picture_len) = (picture.as_ptr(), picture.len());
+    // SAFETY: a borrowed slice, see above.
+    unsafe { sys::straightener_level_checked(width, height, x1, y1, x2, y2, threshold, picture, picture_len) }
 }
 
 /// The samples as greys.

@@ -5,11 +5,11 @@ use std::fmt;
 use straightener_sys as sys;
 
 /// Makes the refusals of a list: number, name, the C interface's constant and words of each. Those of the
-/// second list name the first sample to blame, by its row and column.
+/// second list name the sample to blame, by its row and column; the text before the constant says which.
 macro_rules! refusals {
     (
         plain: $($number:literal $name:ident $constant:ident $words:literal)*
-        with_a_place: $($at:literal $placed:ident $placed_constant:ident $placed_words:literal)*
+        with_a_place: $($at:literal $placed:ident $first:literal $placed_constant:ident $placed_words:literal)*
     ) => {
         /// Why a call was refused; nothing was written to any buffer.
         ///
@@ -28,7 +28,7 @@ macro_rules! refusals {
             $(
                 #[doc = concat!("Number ", $at, ": ", $placed_words, ".")]
                 $placed {
-                    /// Row of the first such sample in row order; 0 for a line.
+                    #[doc = concat!("Row of ", $first, ".")]
                     row: usize,
                     /// Column of that sample.
                     column: usize,
@@ -108,7 +108,7 @@ refusals! {
         "the kernel must be 0 (linear), 1 (Keys) or 2 (cubic spline)"
 
         7 Point STRAIGHTENER_REFUSED_POINT
-        "the point lies outside the picture; for levelling, coordinates must be from 0 to 1,023"
+        "a point lies outside the picture; for levelling without a picture, coordinates must be from 0 to 1,023"
 
         8 Slope STRAIGHTENER_REFUSED_SLOPE
         "the second point must lie to the right of the first, and no steeper than 45 degrees from it"
@@ -126,9 +126,14 @@ refusals! {
          refused asking is of no size"
 
     with_a_place:
-        6 Sample STRAIGHTENER_REFUSED_SAMPLE
+        6 Sample "the first such sample in row order; 0 for a line" STRAIGHTENER_REFUSED_SAMPLE
         "a sample, or the largest sample size given for a forecast, lies beyond its range, which is 32,767 \
-         units to either side of 0 for straightening, 294,912 for a single line and 1,048,576 for readings"
+         units to either side of 0 for straightening, 294,912 for a single line, and 1,048,576 for readings and \
+         for levelling with a picture"
+
+        15 Threshold "the leftmost such sample" STRAIGHTENER_REFUSED_THRESHOLD
+        "a sample on the line between the two points is below the threshold: the points are not on one \
+         graticule line, or the threshold is too high"
 }
 
 impl Error for Refusal {}

@@ -2,8 +2,9 @@
 
 use std::collections::HashSet;
 use straightener::{
-    answer_line, ask, commit, floats_out, forecast, greys_out, level, line_work_places, move_line, raw,
-    reading, sine, straighten, straightened, summary, work_places, Border, Kernel, Refusal, Setting, Ticket,
+    answer_line, ask, commit, floats_out, forecast, greys_out, level, level_checked, line_work_places,
+    move_line, raw, reading, sine, straighten, straightened, summary, work_places, Border, Kernel, Refusal,
+    Setting, Ticket,
 };
 
 #[test]
@@ -79,6 +80,37 @@ fn a_refused_forecast() {
     let too_large = refusal(2, setting, 32_768);
     assert_eq!(too_large, Refusal::Sample { row: 0, column: 0 });
     assert!(too_large.to_string().contains("the largest sample size given for a forecast"), "{too_large}");
+}
+
+#[test]
+fn a_line_under_two_points() {
+    let mut picture = vec![100; 5 * 4];
+    let told = |picture: &[i32], threshold| level_checked(5, 4, 0, 3, 4, 1, threshold, picture);
+    assert_eq!(told(&picture, 100), level(0, 3, 4, 1));
+    assert_eq!(told(&picture, i32::MIN), level(0, 3, 4, 1));
+    // Column 1 lies halfway between rows 2 and 3, which is row 3.
+    picture[3 * 5 + 1] = 99;
+    let refusal = told(&picture, 100).expect_err("a sample below the threshold");
+    assert_eq!(refusal, Refusal::Threshold { row: 3, column: 1 });
+    assert_eq!(refusal.number(), 15);
+    assert!(refusal.to_string().contains("row 3, column 1"), "{refusal}");
+    assert_eq!(told(&picture, 99), level(0, 3, 4, 1));
+}
+
+#[test]
+fn a_refused_line_under_two_points() {
+    let picture = [7, 7, 7, 1_048_577, 7, 7];
+    let refusal = |width, [x1, y1, x2, y2]: [i32; 4], picture: &[i32]| {
+        level_checked(width, 2, x1, y1, x2, y2, i32::MAX, picture).expect_err("a refusal")
+    };
+    assert_eq!(refusal(0, [0, 0, 1, 0], &picture), Refusal::Size);
+    assert_eq!(refusal(usize::MAX, [0, 0, 1, 0], &picture), Refusal::Size);
+    assert_eq!(refusal(3, [0, 0, 1, 0], &picture[..5]), Refusal::Buffer);
+    assert_eq!(refusal(3, [0, 0, 9, 0], &picture), Refusal::Sample { row: 1, column: 0 });
+    assert_eq!(refusal(3, [0, 0, 3, 0], &[7; 6]), Refusal::Point);
+    assert_eq!(refusal(3, [0, -1, 2, 0], &[7; 6]), Refusal::Point);
+    assert_eq!(refusal(3, [1, 0, 1, 1], &[7; 6]), Refusal::Slope);
+    assert_eq!(refusal(3, [1, 1, 2, 0], &[7; 6]), Refusal::Threshold { row: 1, column: 1 });
 }
 
 #[test]

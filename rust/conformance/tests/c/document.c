@@ -321,10 +321,12 @@ static void refusals(void)
     n[1] = straightener_straighten(1025, 2, setting, NULL, 0, NULL, 0, NULL, 0).number;
     n[7] = straightener_level(0, 0, 1024, 0).number;
     n[8] = straightener_level(10, 0, 10, 0).number;
+    n[15] = straightener_level_checked(3, 2, 0, 0, 1, 0, 1, picture, 6).number;
     expect(straightener_answer_line((const uint8_t *)"junk", 4, answer, 11).written == 11);
     n[9] = (unsigned)(answer[1] - '0');
     expect(all(r, 0, 6, UNTOUCHED) && all(work, 0, 36, UNTOUCHED));
-    printf("refusals: %u %u %u %u %u %u %u %u %u %u %u\n", n[1], n[2], n[3], n[4], n[5], n[6], n[7], n[8], n[9], n[12], n[14]);
+    printf("refusals: %u %u %u %u %u %u %u %u %u %u %u %u\n", n[1], n[2], n[3], n[4], n[5], n[6], n[7], n[8], n[9], n[12], n[14],
+           n[15]);
 }
 
 /* Whether a setting has these five parts, and the border 8 with background INT32_MIN. */
@@ -372,6 +374,34 @@ static void steps(void)
            (int)straightener_sine(1000).value, (int)straightener_sine(1697).value);
     printf("levelling: %d, %d\n", (int)straightener_level(0, 0, 100, 1).value,
            (int)straightener_level(0, 0, 1000, 1000).value);
+}
+
+/* Whether levelling with a picture tells just this. */
+static int checked(straightener_checked_step c, uint32_t number, size_t row, size_t column, int32_t step)
+{
+    return c.number == number && c.row == row && c.column == column && c.step == step;
+}
+
+/* The line from (0, 0) to (3, 2) looks at 9, -1, 5 and 1, the one from (1, 2) to (3, 2) at 9, 9 and 1. */
+static void lines_under_points(void)
+{
+    int32_t picture[13] = {9, 8, 7, 6, 5, -1, 5, 2, 9, 9, 9, 1, INT32_MIN};
+    straightener_checked_step first = straightener_level_checked(4, 3, 0, 0, 3, 2, 0, picture, 13);
+    int32_t step = straightener_level(0, 0, 3, 2).value;
+    expect(checked(first, STRAIGHTENER_REFUSED_THRESHOLD, 1, 1, 0));
+    expect(checked(straightener_level_checked(4, 3, 0, 0, 3, 2, -1, picture, 13), STRAIGHTENER_ACCEPTED, 0, 0, step));
+    expect(checked(straightener_level_checked(4, 3, 0, 0, 3, 2, INT32_MIN, picture, 13), 0, 0, 0, step));
+    expect(checked(straightener_level_checked(4, 3, 0, 0, 3, 2, INT32_MAX, picture, 13), 15, 0, 0, 0));
+    expect(checked(straightener_level_checked(4, 3, 1, 2, 3, 2, 1, picture, 12), 0, 0, 0, 0));
+    expect(checked(straightener_level_checked(4, 3, 1, 2, 3, 2, 2, picture, 12), 15, 2, 3, 0));
+    expect(checked(straightener_level_checked(4, 3, 0, 0, 1, 2, INT32_MAX, picture, 12), STRAIGHTENER_REFUSED_SLOPE, 0, 0, 0));
+    expect(checked(straightener_level_checked(4, 3, 0, 0, 4, 2, INT32_MAX, picture, 12), STRAIGHTENER_REFUSED_POINT, 0, 0, 0));
+    expect(checked(straightener_level_checked(4, 3, 0, INT32_MIN, 3, 2, 0, picture, 12), 7, 0, 0, 0));
+    picture[6] = 1048577;
+    expect(checked(straightener_level_checked(4, 3, 0, 0, 4, 2, 0, picture, 12), STRAIGHTENER_REFUSED_SAMPLE, 1, 2, 0));
+    expect(checked(straightener_level_checked(4, 3, 0, 0, 4, 2, 0, picture, 11), STRAIGHTENER_REFUSED_BUFFER, 0, 0, 0));
+    expect(checked(straightener_level_checked(SIZE_MAX, 3, 0, 0, 4, 2, 0, NULL, 0), STRAIGHTENER_REFUSED_SIZE, 0, 0, 0));
+    printf("line under two points: row %zu, column %zu is below; step %d\n", first.row, first.column, (int)step);
 }
 
 static void readings(void)
@@ -433,6 +463,7 @@ int main(void)
     refusals();
     settings();
     steps();
+    lines_under_points();
     readings();
     video_range();
     line_format();

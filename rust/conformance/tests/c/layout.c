@@ -47,6 +47,11 @@ int main(void)
     SIZE("\nStep", straightener_step);
     FIELD(straightener_step, number);
     FIELD(straightener_step, value);
+    SIZE("\nCheckedStep", straightener_checked_step);
+    FIELD(straightener_checked_step, number);
+    FIELD(straightener_checked_step, row);
+    FIELD(straightener_checked_step, column);
+    FIELD(straightener_checked_step, step);
     SIZE("\nReadingAnswer", straightener_reading_answer);
     FIELD(straightener_reading_answer, number);
     FIELD(straightener_reading_answer, row);

@@ -19,20 +19,20 @@ pub use hexlines::{answer_input, answer_line};
 pub use line::{coefficients, fraction, line_work_places, move_line, rounded, weights};
 pub use picture::{passes, straighten, work_places, Setting};
 pub use readings::{floats_out, grey, greys_out, reading, summary, Reading, Summary};
-pub use steps::{level, sine, with_step, LARGEST_STEP};
+pub use steps::{level, level_checked, sine, with_step, LARGEST_STEP};
 pub use tickets::{ask, commit, Ticket};
 
 /// The longest line, and the largest width and height, in samples.
 pub const LONGEST: usize = 1_024;
 
-/// Why a call was refused: the document's number, and under number 6 the place of the sample.
+/// Why a call was refused: the document's number, and under numbers 6 and 15 the place of the sample.
 #[derive(Clone, Copy, Debug, PartialEq, Eq)]
 pub struct Refused {
-    /// 1 to 9, as document 01 lists them, or 12 or 14 of document 02.
+    /// 1 to 9, as document 01 lists them, or 12, 14 or 15 of document 02.
     pub number: u32,
-    /// Row of the first sample beyond the range; 0 for every other number.
+    /// Row of the first sample beyond the range, or below the threshold; 0 for every other number.
     pub row: usize,
-    /// Column of the first sample beyond the range; 0 for every other number.
+    /// Column of that sample; 0 for every other number.
     pub column: usize,
 }
 

@@ -3,7 +3,7 @@
 use super::{judge_samples, judge_size, refuse_if, Refused};
 
 /// The largest sample of a picture that is read, in units of 1/128 grey.
-const LARGEST_READ_SAMPLE: i32 = 1_048_576;
+pub(super) const LARGEST_READ_SAMPLE: i32 = 1_048_576;
 
 /// Black of the video range, grey 16, as a sample.
 const BLACK: i32 = 16 * 128;

@@ -1,7 +1,8 @@
 //! Steps and levelling.
 
 use super::line::{rounded, D};
-use super::{refuse_if, Refused, Setting};
+use super::readings::LARGEST_READ_SAMPLE;
+use super::{judge_samples, judge_size, refuse_if, Refused, Setting};
 
 /// The largest step: 4,096 times the tangent of half of 45 degrees, rounded.
 pub const LARGEST_STEP: i32 = 1_697;
@@ -38,6 +39,32 @@ pub fn level(x1: i32, y1: i32, x2: i32, y2: i32) -> Result<i32, Refused> {
         }
     }
     Ok(best)
+}
+
+/// The step that levels a graticule line through (x1, y1) and (x2, y2), where in each of its columns the sample
+/// in the row that document 02 names is not below the threshold.
+pub fn level_checked(
+    (width, height): (usize, usize),
+    [x1, y1, x2, y2]: [i32; 4],
+    threshold: i32,
+    picture: &[i32],
+) -> Result<i32, Refused> {
+    judge_size(width)?;
+    judge_size(height)?;
+    refuse_if(picture.len() < width * height, 2)?;
+    judge_samples(width, height, picture, LARGEST_READ_SAMPLE)?;
+    let outside = |x: i32, y: i32| x < 0 || x >= width as i32 || y < 0 || y >= height as i32;
+    refuse_if(outside(x1, y1) || outside(x2, y2), 7)?;
+    let step = level(x1, y1, x2, y2)?;
+    let (dx, dy) = (x2 - x1, y2 - y1);
+    for x in x1..=x2 {
+        let row = (2 * (y1 * dx + dy * (x - x1)) + dx).div_euclid(2 * dx) as usize;
+        let column = x as usize;
+        if picture[width * row + column] < threshold {
+            return Err(Refused { number: 15, row, column });
+        }
+    }
+    Ok(step)
 }
 
 #[cfg(test)]
