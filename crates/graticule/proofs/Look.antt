@@ -1,7 +1,7 @@
 -- The row that is looked at lies between the rows of the two points, so that every look is inside the picture. Nothing is found just where no looked-at sample is
 -- below the threshold; what is found is the first that is. Assumes nothing.
 use Prim.Native.Nat.{ℕ, suc, _+_, _*_, _-_, _/_, _≤_, _<_, min, max}
-use mathlib.Core.Path.{_≡_, refl, sym, ap, _∙_, subst}
+use mathlib.Core.Path.{_≡_, refl, sym, ap, _∙_}
 use mathlib.Core.Bool.{Bool, true, false, true≢false}
 use mathlib.Core.List.{List, [], _∷_, map}
 use mathlib.Core.Logic.{_↔_}
@@ -9,14 +9,14 @@ use native.Mathlib.Nat.{div-lt-iff-lt-mul, le-div-iff-mul-le}
 use native.Mathlib.Omega.{arith}
 use lib.IntN.{ℤ, pos, negsuc, natAbs, _+ℤ_, _-ℤ_, _*ℤ_}
 use lib.ListN.{getD}
-use lib.Signed.{shrZ, ltZ, _<ℤ_}
+use lib.Signed.{shrZ, ltZ}
 use Rattle.arith.specs.Whole.{floor, round}
 use Rattle.arith.proofs.Bridge.{bridge, prod}
 use Rattle.arith.proofs.Round.{round-error}
 use Rattle.arith.proofs.Machine.{lt-true, true-lt}
 use Rattle.refusals.specs.declared.Found.the-variants.{Nothing, At}
 use Rattle.refusals.specs.Tests.{firstFrom}
-use Rattle.refusals.proofs.First.{FirstAt, Spot, nothing-first, first-is}
+use Rattle.refusals.proofs.First.{nothing-first, first-is}
 use Rattle.graticule.specs.declared.Points.{Points}
 use Rattle.graticule.specs.Look.{rowAt, lookedAt, firstBelow, Below, FirstBelow, Rightward}
 

@@ -18,7 +18,7 @@ use Rattle.graticule.specs.declared.Points.{Points}
 use Rattle.graticule.specs.declared.Checked.{Checked}
 use Rattle.graticule.specs.Look.{firstBelow, Below, FirstBelow}
 
--- two points by their columns and rows, which no number inside a picture is below 0 of
+-- two points as natural numbers: inside a picture no coordinate is negative
 abbrev pub pointsOf : ℤ → ℤ → ℤ → ℤ → Points
 pointsOf x1 y1 x2 y2 = record { x1 = natAbs x1; y1 = natAbs y1; x2 = natAbs x2; y2 = natAbs y2 }
 

@@ -1,7 +1,6 @@
 -- "In every column from x1 to x2 it looks at row (2(y1·dx + dy·(x - x1)) + dx)/(2·dx), rounded down." Assumes nothing.
 use Prim.Native.Nat.{ℕ, suc, _+_, _*_, _-_, _≤_, _<_, max}
 use mathlib.Core.Path.{_≡_}
-use mathlib.Core.Bool.{Bool}
 use mathlib.Core.List.{List}
 use lib.IntN.{ℤ, pos, natAbs, _+ℤ_, _-ℤ_, _*ℤ_}
 use lib.Signed.{ltZ, _<ℤ_}
@@ -9,6 +8,7 @@ use Rattle.arith.specs.Whole.{floor}
 use Rattle.refusals.specs.declared.Found.{Found}
 use Rattle.refusals.specs.Tests.{firstFrom}
 use Rattle.readings.specs.Answers.{sampleAt}
+use Rattle.levelling.specs.Level.{largestSide}
 use Rattle.graticule.specs.declared.Points.{Points}
 
 -- the row that is looked at in column x
@@ -45,8 +45,8 @@ pub record FirstBelow (width height : ℕ) (p : Points) (threshold : ℤ) (pictu
 -- the second is to the right of the first, and both are within the largest picture
 pub record Rightward (p : Points) : Type 0 where
   pub apart : p .x1 < p .x2
-  pub columns : p .x2 < 1024
-  pub rows : max (p .y1) (p .y2) < 1024
+  pub columns : p .x2 < largestSide
+  pub rows : max (p .y1) (p .y2) < largestSide
 
 -- and within a picture of that width and so many places
 pub record Lie (width places : ℕ) (p : Points) : Type 0 where

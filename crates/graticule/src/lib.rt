@@ -6,7 +6,7 @@ ghost use lib.ListN.{length};
 ghost use lib.IntN.{pos, _-ℤ_};
 ghost use lib.Signed.{_≤ℤ_};
 ghost use Rattle.refusals.specs.Judging.{ofFound, andThen};
-ghost use Rattle.levelling.specs.Level.{levelling};
+ghost use Rattle.levelling.specs.Level.{largestSide, levelling};
 ghost use Rattle.graticule.specs.Look.{rowAt, firstBelow, Rightward, Lie};
 ghost use Rattle.graticule.specs.Checked.{pointsOf, judgedPoints, checkedBy, LevelChecked};
 use levelling::Levelled;
@@ -27,7 +27,7 @@ pub struct Checked {
     pub step: i32,
 }
 
-// The row nearest to the line in column x, the lower on the screen where two are. It is a mean of the points' rows, so that nothing is negative.
+// The row nearest to the line in column x, of two as near the lower on the screen. It is a mean of the points' rows, so that nothing is negative.
 fn row_at(points: Points, x: usize) -> usize
     requires { ⌜ Rightward points × (points .x1 ≤ x) × (x ≤ points .x2) ⌝ }
     ensures { λ r. ⌜ pos r ≡ rowAt points x ⌝ }
@@ -102,7 +102,7 @@ fn check_points(
     threshold: i32,
     picture: &[i32],
 ) -> Checked
-    requires { ⌜ (width ≤ 1024) × (height ≤ 1024) × (height * width ≤ length (now picture)) ⌝ }
+    requires { ⌜ (width ≤ largestSide) × (height ≤ largestSide) × (height * width ≤ length (now picture)) ⌝ }
     ensures { λ r. ⌜ r ≡ checkedBy (andThen (judgedPoints width height x1 y1 x2 y2) (ofFound 15 (firstBelow width (pointsOf x1 y1 x2 y2) threshold (now (picture .entry))))) (levelling (x2 -ℤ x1) (y2 -ℤ y1)) ⌝ }
 {
     let levelled = levelling::level_within(width, height, x1, y1, x2, y2);

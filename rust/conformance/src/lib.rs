@@ -61,6 +61,9 @@ impl Extremes {
     }
 }
 
+/// What levelling with a picture takes beside the picture: its size, x1, y1, x2, y2, and the threshold.
+pub type LineUnderPoints = ((usize, usize), [i32; 4], i32);
+
 /// The public calls of documents 01 and 02. Floats are compared by their bits, so they are answered as such.
 pub trait Implementation {
     fn straighten(
@@ -100,14 +103,8 @@ pub trait Implementation {
     fn with_step(&self, setting: Setting, t: i32) -> (u32, Setting);
     fn sine(&self, t: i32) -> (u32, i32);
     fn level(&self, x1: i32, y1: i32, x2: i32, y2: i32) -> (u32, i32);
-    /// The answer, whose count is 0, and the step. The points are x1, y1, x2, y2.
-    fn level_checked(
-        &self,
-        size: (usize, usize),
-        points: [i32; 4],
-        threshold: i32,
-        picture: &[i32],
-    ) -> (Answer, i32);
+    /// The answer, whose count is 0, and the step, of a size, two points and a threshold.
+    fn level_checked(&self, line: LineUnderPoints, picture: &[i32]) -> (Answer, i32);
     fn greys_out(&self, size: (usize, usize), picture: &[i32], greys: &mut [u8]) -> Answer;
     fn floats_out(&self, size: (usize, usize), picture: &[i32], floats: &mut [f32]) -> Answer;
     /// The answer, the case (0 Level, 1 Under, 2 Over) and the bits of its greys.

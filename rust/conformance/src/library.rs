@@ -1,7 +1,7 @@
 //! The proved library as one of the implementations.
 
 use crate::calls::LineCall;
-use crate::{Answer, Extremes, Implementation};
+use crate::{Answer, Extremes, Implementation, LineUnderPoints};
 use reference::second::{Border, Forecast, Setting, Ticket};
 use straightener::raw;
 
@@ -134,13 +134,8 @@ impl Implementation for Library {
         (step.number, step.value)
     }
 
-    fn level_checked(
-        &self,
-        (width, height): (usize, usize),
-        [x1, y1, x2, y2]: [i32; 4],
-        threshold: i32,
-        picture: &[i32],
-    ) -> (Answer, i32) {
+    fn level_checked(&self, (size, points, threshold): LineUnderPoints, picture: &[i32]) -> (Answer, i32) {
+        let ((width, height), [x1, y1, x2, y2]) = (size, points);
         let raw::CheckedStep { number, row, column, step } =
             raw::level_checked(width, height, x1, y1, x2, y2, threshold, picture);
         (Answer::of(number, row, column, 0), step)

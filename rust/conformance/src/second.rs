@@ -1,7 +1,7 @@
 //! The second implementation as one of the implementations.
 
 use crate::calls::LineCall;
-use crate::{Answer, Extremes, Implementation};
+use crate::{Answer, Extremes, Implementation, LineUnderPoints};
 use reference::second::{self, Border, Forecast, Refused, Setting, Ticket, Told};
 
 /// The second implementation.
@@ -111,13 +111,7 @@ impl Implementation for Second {
         stepped(second::level(x1, y1, x2, y2))
     }
 
-    fn level_checked(
-        &self,
-        size: (usize, usize),
-        points: [i32; 4],
-        threshold: i32,
-        picture: &[i32],
-    ) -> (Answer, i32) {
+    fn level_checked(&self, (size, points, threshold): LineUnderPoints, picture: &[i32]) -> (Answer, i32) {
         let outcome = second::level_checked(size, points, threshold, picture);
         (answer(outcome.map(|_| 0)), outcome.unwrap_or(0))
     }

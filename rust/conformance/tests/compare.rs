@@ -247,8 +247,8 @@ fn hostile_levellings() {
     let (mut numbers, mut seen) = (Numbers::seeded(33), [0; 16]);
     for _ in 0..20_000 {
         let (size, points, threshold, picture) = hostile_levelling(&mut numbers);
-        let told = Library.level_checked(size, points, threshold, &picture);
-        let second = Second.level_checked(size, points, threshold, &picture);
+        let told = Library.level_checked((size, points, threshold), &picture);
+        let second = Second.level_checked((size, points, threshold), &picture);
         assert_eq!(told, second, "{size:?} {points:?} {threshold} {picture:?}");
         seen[told.0.number as usize] += 1;
     }

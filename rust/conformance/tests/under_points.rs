@@ -79,12 +79,12 @@ fn the_row_nearest_to_the_line(implementation: &dyn Implementation) {
         }
         let points = [0, y1, dx, y2];
         let mut picture = screen(size, points);
-        let told = implementation.level_checked(size, points, LIGHT, &picture);
+        let told = implementation.level_checked((size, points, LIGHT), &picture);
         assert_eq!(told, level(implementation, points), "{points:?}");
         for x in 0..=dx {
             let place = on_the_line(13, points, x);
             picture[place] = LIGHT - 1;
-            let told = implementation.level_checked(size, points, LIGHT, &picture);
+            let told = implementation.level_checked((size, points, LIGHT), &picture);
             assert_eq!(told, below(place / 13, x as usize), "{points:?} in column {x}");
             picture[place] = LIGHT;
             tried += 1;
@@ -97,7 +97,7 @@ fn a_light_line_on_a_dark_screen(implementation: &dyn Implementation) {
     let mut numbers = Numbers::seeded(61);
     for _ in 0..2_000 {
         let (size, points) = any_line(&mut numbers);
-        let told = implementation.level_checked(size, points, LIGHT, &screen(size, points));
+        let told = implementation.level_checked((size, points, LIGHT), &screen(size, points));
         assert_eq!(told, level(implementation, points), "{size:?} {points:?}");
     }
 }
@@ -112,7 +112,7 @@ fn the_leftmost_of_two_gaps(implementation: &dyn Implementation) {
             picture[on_the_line(size.0, points, x)] = numbers.one_of(&[DARK, LIGHT - 1, -1_048_576]);
         }
         let first = columns[0].min(columns[1]);
-        let told = implementation.level_checked(size, points, LIGHT, &picture);
+        let told = implementation.level_checked((size, points, LIGHT), &picture);
         let expected = below(on_the_line(size.0, points, first) / size.0, first as usize);
         assert_eq!(told, expected, "{size:?} {points:?} {columns:?}");
     }
@@ -129,7 +129,7 @@ fn no_other_sample_is_compared(implementation: &dyn Implementation) {
             picture[on_the_line(size.0, points, x)] = numbers.one_of(&[LIGHT, 1_048_576]);
         }
         picture.extend([i32::MIN, i32::MAX]);
-        let told = implementation.level_checked(size, points, LIGHT, &picture);
+        let told = implementation.level_checked((size, points, LIGHT), &picture);
         assert_eq!(told, level(implementation, points), "{size:?} {points:?}");
     }
 }
@@ -137,7 +137,7 @@ fn no_other_sample_is_compared(implementation: &dyn Implementation) {
 fn the_ends_of_the_threshold(implementation: &dyn Implementation) {
     let (size, points) = ((5, 3), [1, 2, 4, 0]);
     for sample in [-1_048_576, -1, 0, 1, 1_048_576] {
-        let told = |threshold| implementation.level_checked(size, points, threshold, &[sample; 15]);
+        let told = |threshold| implementation.level_checked((size, points, threshold), &[sample; 15]);
         assert_eq!(told(i32::MIN), level(implementation, points), "{sample}");
         assert_eq!(told(-1_048_576), level(implementation, points), "{sample}");
         assert_eq!(told(1_048_577), below(2, 1), "{sample}");
@@ -148,7 +148,7 @@ fn the_ends_of_the_threshold(implementation: &dyn Implementation) {
 fn at_the_threshold_and_one_below(implementation: &dyn Implementation) {
     let (size, points) = ((3, 1), [0, 0, 2, 0]);
     for threshold in [-1_048_576, -1, 0, 1, 2_048, 1_048_576] {
-        let told = |sample| implementation.level_checked(size, points, threshold, &[sample; 3]);
+        let told = |sample| implementation.level_checked((size, points, threshold), &[sample; 3]);
         assert_eq!(told(threshold), (Answer::accepted(0), 0), "{threshold}");
         let under = if threshold == -1_048_576 { Answer::of(6, 0, 0, 0) } else { Answer::of(15, 0, 0, 0) };
         assert_eq!(told(threshold - 1), (under, 0), "{threshold}");
@@ -157,7 +157,7 @@ fn at_the_threshold_and_one_below(implementation: &dyn Implementation) {
 
 fn points_in_the_corners_and_one_step_outside(implementation: &dyn Implementation) {
     let picture = [LIGHT; 7 * 5];
-    let number = |points| implementation.level_checked((7, 5), points, LIGHT, &picture).0.number;
+    let number = |points| implementation.level_checked(((7, 5), points, LIGHT), &picture).0.number;
     for inside in [[0, 0, 6, 4], [0, 4, 6, 0], [0, 0, 6, 0], [5, 4, 6, 4]] {
         assert_eq!(number(inside), 0, "{inside:?}");
     }
@@ -177,7 +177,7 @@ fn points_in_the_corners_and_one_step_outside(implementation: &dyn Implementatio
 fn the_number_that_comes_first(implementation: &dyn Implementation) {
     let (mut size, mut points, mut threshold, mut picture) = ((4, 3), [0, 0, 3, 2], LIGHT, vec![LIGHT; 12]);
     let told = |size, points, threshold, picture: &[i32]| {
-        implementation.level_checked(size, points, threshold, picture)
+        implementation.level_checked((size, points, threshold), picture)
     };
     assert_eq!(told(size, points, threshold, &picture), level(implementation, points));
     threshold += 1;
@@ -198,11 +198,11 @@ fn the_longest_line(implementation: &dyn Implementation) {
     let size = (1_024, 1_024);
     for points in [[0, 0, 1_023, 1_023], [0, 1_023, 1_023, 0], [0, 1_023, 1_023, 511]] {
         let mut picture = screen(size, points);
-        let told = implementation.level_checked(size, points, LIGHT, &picture);
+        let told = implementation.level_checked((size, points, LIGHT), &picture);
         assert_eq!(told, level(implementation, points), "{points:?}");
         let last = on_the_line(1_024, points, 1_023);
         picture[last] = DARK;
-        let told = implementation.level_checked(size, points, LIGHT, &picture);
+        let told = implementation.level_checked((size, points, LIGHT), &picture);
         assert_eq!(told, below(points[3] as usize, 1_023), "{points:?}");
     }
 }

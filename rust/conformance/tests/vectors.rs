@@ -368,7 +368,7 @@ fn levels_with_a_picture(implementation: &dyn Implementation) {
     for (input, answer) in vectors("level_checked.txt", 250) {
         let [x1, y1, x2, y2, threshold]: [i32; 5] = numbers(&input[2..7]).try_into().expect("five numbers");
         let size = (number(&input[0]), number(&input[1]));
-        let told = implementation.level_checked(size, [x1, y1, x2, y2], threshold, &numbers(&input[7..]));
+        let told = implementation.level_checked((size, [x1, y1, x2, y2], threshold), &numbers(&input[7..]));
         let [code, row, column] = [0, 1, 2].map(|k| number::<usize>(&answer[k]));
         assert_eq!(told, (Answer::of(code as u32, row, column, 0), number(&answer[3])), "{input:?}");
     }
@@ -378,7 +378,7 @@ fn lines_under_two_points(implementation: &dyn Implementation) {
     for (input, answer) in vectors("under_points.txt", 298) {
         let points = ["x1", "y1", "x2", "y2"].map(|key| number(value(&input, key)));
         let (threshold, picture) = (number(value(&input, "threshold")), list(value(&input, "picture")));
-        let told = implementation.level_checked(named_size(&input), points, threshold, &picture);
+        let told = implementation.level_checked((named_size(&input), points, threshold), &picture);
         let figure = |key: &str| number::<usize>(value(&answer, key));
         let expected = Answer::of(figure("number") as u32, figure("row"), figure("column"), 0);
         assert_eq!(told, (expected, number(value(&answer, "step"))), "{input:?}");

@@ -210,6 +210,7 @@ pub fn level(x1: i32, y1: i32, x2: i32, y2: i32) -> Result<i32, Refusal> {
 /// The step that [`level`] answers, where no sample on the line through the two points is below a threshold: for
 /// points that may have been set on a trace, or beside the graticule, by mistake.
 ///
+/// The points are each a column and a row, (x1, y1) the left one and (x2, y2) the right one.
 /// In every column x from x1 to x2, both included, the sample in row (2(y1·dx + dy·(x - x1)) + dx)/(2·dx),
 /// rounded down, is looked at, where dx is x2 - x1 and dy is y2 - y1: the row nearest to the line. `picture` takes
 /// width times height places, row by row, with samples within plus or minus 1,048,576, 128 to one grey. The
@@ -228,22 +229,19 @@ pub fn level(x1: i32, y1: i32, x2: i32, y2: i32) -> Result<i32, Refusal> {
 /// for place in [0, 1, 8 + 2, 8 + 3, 8 + 4, 8 + 5, 16 + 6, 16 + 7] {
 ///     screen[place] = 30_080;
 /// }
-/// assert_eq!(level_checked(8, 4, 0, 0, 7, 2, 16_000, &screen)?, level(0, 0, 7, 2)?);
+/// assert_eq!(level_checked(8, 4, (0, 0), (7, 2), 16_000, &screen)?, level(0, 0, 7, 2)?);
 ///
 /// // The right point was set one row too low.
-/// let mistaken = level_checked(8, 4, 0, 0, 7, 3, 16_000, &screen);
+/// let mistaken = level_checked(8, 4, (0, 0), (7, 3), 16_000, &screen);
 /// assert_eq!(mistaken, Err(Refusal::Threshold { row: 2, column: 4 }));
 /// # Ok(())
 /// # }
 /// ```
-#[allow(clippy::too_many_arguments)]
 pub fn level_checked(
     width: usize,
     height: usize,
-    x1: i32,
-    y1: i32,
-    x2: i32,
-    y2: i32,
+    (x1, y1): (i32, i32),
+    (x2, y2): (i32, i32),
     threshold: i32,
     picture: &[i32],
 ) -> Result<i32, Refusal> {

@@ -85,7 +85,7 @@ fn a_refused_forecast() {
 #[test]
 fn a_line_under_two_points() {
     let mut picture = vec![100; 5 * 4];
-    let told = |picture: &[i32], threshold| level_checked(5, 4, 0, 3, 4, 1, threshold, picture);
+    let told = |picture: &[i32], threshold| level_checked(5, 4, (0, 3), (4, 1), threshold, picture);
     assert_eq!(told(&picture, 100), level(0, 3, 4, 1));
     assert_eq!(told(&picture, i32::MIN), level(0, 3, 4, 1));
     // Column 1 lies halfway between rows 2 and 3, which is row 3.
@@ -100,17 +100,17 @@ fn a_line_under_two_points() {
 #[test]
 fn a_refused_line_under_two_points() {
     let picture = [7, 7, 7, 1_048_577, 7, 7];
-    let refusal = |width, [x1, y1, x2, y2]: [i32; 4], picture: &[i32]| {
-        level_checked(width, 2, x1, y1, x2, y2, i32::MAX, picture).expect_err("a refusal")
+    let refusal = |width, left, right, picture: &[i32]| {
+        level_checked(width, 2, left, right, i32::MAX, picture).expect_err("a refusal")
     };
-    assert_eq!(refusal(0, [0, 0, 1, 0], &picture), Refusal::Size);
-    assert_eq!(refusal(usize::MAX, [0, 0, 1, 0], &picture), Refusal::Size);
-    assert_eq!(refusal(3, [0, 0, 1, 0], &picture[..5]), Refusal::Buffer);
-    assert_eq!(refusal(3, [0, 0, 9, 0], &picture), Refusal::Sample { row: 1, column: 0 });
-    assert_eq!(refusal(3, [0, 0, 3, 0], &[7; 6]), Refusal::Point);
-    assert_eq!(refusal(3, [0, -1, 2, 0], &[7; 6]), Refusal::Point);
-    assert_eq!(refusal(3, [1, 0, 1, 1], &[7; 6]), Refusal::Slope);
-    assert_eq!(refusal(3, [1, 1, 2, 0], &[7; 6]), Refusal::Threshold { row: 1, column: 1 });
+    assert_eq!(refusal(0, (0, 0), (1, 0), &picture), Refusal::Size);
+    assert_eq!(refusal(usize::MAX, (0, 0), (1, 0), &picture), Refusal::Size);
+    assert_eq!(refusal(3, (0, 0), (1, 0), &picture[..5]), Refusal::Buffer);
+    assert_eq!(refusal(3, (0, 0), (9, 0), &picture), Refusal::Sample { row: 1, column: 0 });
+    assert_eq!(refusal(3, (0, 0), (3, 0), &[7; 6]), Refusal::Point);
+    assert_eq!(refusal(3, (0, -1), (2, 0), &[7; 6]), Refusal::Point);
+    assert_eq!(refusal(3, (1, 0), (1, 1), &[7; 6]), Refusal::Slope);
+    assert_eq!(refusal(3, (1, 1), (2, 0), &[7; 6]), Refusal::Threshold { row: 1, column: 1 });
 }
 
 #[test]
