@@ -26,13 +26,11 @@ module _ (c : tie.After-is-outside4) where
       let e = rw (toZ-ofZ (s .fits .y2)) at (c .is-outside4 .ensures) in
       cc
 
-passed : (c : tie.Else1)
-    → anyOutside (s (c .before) .args .width) (s (c .before) .args .height) (s (c .before) .args .x1) (s (c .before) .args .y1) (s (c .before) .args .x2) (s (c .before) .args .y2) ≡ false
+passed : (c : tie.Else1) → let a = s (c .before) .args in anyOutside (a .width) (a .height) (a .x1) (a .y1) (a .x2) (a .y2) ≡ false
 passed c = sym (told (c .before)) ∙ c .if1 .left
 
-inside : (c : tie.Else1)
-    → (outside largestSide (s (c .before) .args .x1) ≡ false) × (outside largestSide (s (c .before) .args .y1) ≡ false)
-    × (outside largestSide (s (c .before) .args .x2) ≡ false) × (outside largestSide (s (c .before) .args .y2) ≡ false)
+inside : (c : tie.Else1) → let a = s (c .before) .args in
+    (outside largestSide (a .x1) ≡ false) × (outside largestSide (a .y1) ≡ false) × (outside largestSide (a .x2) ≡ false) × (outside largestSide (a .y2) ≡ false)
 inside c = inside-largest _ _ _ _ _ _ (s (c .before) .pre .0) (s (c .before) .pre .1) (passed c)
 
 is-outside-requires : tie.Need-is-outside-requires
