@@ -3,17 +3,19 @@ use Prim.Native.Nat.{ℕ, _*_, max}
 use mathlib.Core.Path.{_≡_, refl}
 use mathlib.Core.Bool.{true}
 use mathlib.Core.List.{List, [], _∷_, map}
+use lib.Dec.{lit≤}
 use lib.IntN.{ℤ, pos, negsuc}
 use lib.ListN.{replicate}
 use Rattle.refusals.specs.declared.Verdict.{Verdict}
 use Rattle.refusals.specs.declared.Verdict.the-variants.{Accepted, Refused}
 use Rattle.refusals.specs.Tests.{badSide, badSize, short, badKernel, beyondOf, firstFrom, firstBad}
+use Rattle.refusals.proofs.First.{one-number-good}
 use Rattle.settings.specs.declared.Border.{Border}
 use Rattle.settings.specs.declared.Border.the-variants.{Wrapped, Background}
 use Rattle.settings.specs.declared.Setting.{Setting}
 use Rattle.settings.specs.Setting.{withBorder}
 use Rattle.moves.specs.Border.{badBackground}
-use Rattle.acceptance.specs.Judge.{workPlaces, tooShort, badCentre, badShears, judgedOn, judged}
+use Rattle.acceptance.specs.Judge.{workPlaces, tooShort, badCentre, badShears, range, judgedOn, judged}
 
 -- the work places of sizes at both ends, and of those one past each
 asked :
@@ -49,10 +51,15 @@ abbrev held : List ℤ → Verdict
 held picture = judged 3 2 still picture 6 36
 
 sides :
-    sized 1 1 ∷ sized 1024 1 ∷ sized 1 1024 ∷ sized 0 1 ∷ sized 1 0 ∷ sized 1025 1 ∷ sized 1 1025 ∷ []
-    ≡ Accepted ∷ Accepted ∷ Accepted ∷ Refused 1 0 0 ∷ Refused 1 0 0 ∷ Refused 1 0 0 ∷ Refused 1 0 0 ∷ []
+    sized 1 1 ∷ sized 0 1 ∷ sized 1 0 ∷ sized 1025 1 ∷ sized 1 1025 ∷ []
+    ≡ Accepted ∷ Refused 1 0 0 ∷ Refused 1 0 0 ∷ Refused 1 0 0 ∷ Refused 1 0 0 ∷ []
 unfolding judgedOn badSize badSide tooShort short badCentre badShears badKernel badBackground firstBad firstFrom beyondOf
 sides = refl
+
+-- computed up to number 6, which zeros do not meet
+longest-sides : sized 1024 1 ∷ sized 1 1024 ∷ [] ≡ Accepted ∷ Accepted ∷ []
+unfolding judgedOn badSize badSide tooShort short badCentre badShears badKernel badBackground beyondOf
+longest-sides = rw (one-number-good range 1024 1 1024 (pos 0) (lit≤ tt) (lit≤ tt), one-number-good range 1 1024 1024 (pos 0) (lit≤ tt) (lit≤ tt)) refl
 
 buffers :
     lent 6 6 36 ∷ lent 5 6 36 ∷ lent 6 5 36 ∷ lent 6 6 35 ∷ []

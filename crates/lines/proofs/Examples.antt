@@ -4,6 +4,7 @@
 use mathlib.Core.Path.{_≡_, refl}
 use mathlib.Core.List.{List, [], _∷_, _++_, map}
 use Prim.Native.Nat.{ℕ}
+use lib.Dec.{lit≤}
 use lib.IntN.{ℤ, pos, negsuc}
 use lib.ListN.{replicate}
 use Rattle.arith.specs.Whole.{floor, remainder, round, minℤ, maxℤ}
@@ -15,13 +16,14 @@ use Rattle.lists.specs.Ends.{picked}
 use Rattle.refusals.specs.declared.Verdict.{Verdict}
 use Rattle.refusals.specs.declared.Verdict.the-variants.{Accepted, Refused}
 use Rattle.refusals.specs.Tests.{badSide, short, badKernel, beyondOf, firstFrom, firstBad}
+use Rattle.refusals.proofs.First.{one-number-good}
 use Rattle.settings.specs.declared.Border.{Border}
 use Rattle.settings.specs.declared.Border.the-variants.{Wrapped, Background}
 use Rattle.kernels.specs.Kernel.{weigh, Keys}
 use Rattle.moves.specs.Move.{first, mixed, source, moved}
 use Rattle.moves.specs.Border.{far, gone, fractionIn, bordered, moveIn, badBackground}
 use Rattle.lines.specs.declared.LineOutcome.{LineOutcome}
-use Rattle.lines.specs.Answer.{workPlaces, tooShort, judged, isInterpolated, outcomeOf, numberOf, rowOf, columnOf, countOf, smallestOf, largestOf}
+use Rattle.lines.specs.Answer.{range, workPlaces, tooShort, judged, isInterpolated, outcomeOf, numberOf, rowOf, columnOf, countOf, smallestOf, largestOf}
 
 -- the work places of lengths at both ends, and of those one past each
 asked : map workPlaces (1 ∷ 7 ∷ 1024 ∷ 0 ∷ 1025 ∷ []) ≡ 6 ∷ 42 ∷ 6144 ∷ 0 ∷ 0 ∷ []
@@ -54,13 +56,17 @@ accepted-at-the-ends :
     map verdictOf
     (call 1 0 (pos 4194304) Wrapped ends 1 6
     ∷ call 2 2 (negsuc 4194303) Wrapped ends 2 12
-    ∷ call 1024 1 (pos 0) Wrapped (replicate 1024 (pos 0)) 1024 6144
     ∷ call 2 0 (pos 1) (Background (pos 32767)) ends 2 12
     ∷ call 2 0 (pos 1) (Background (negsuc 32766)) ends 2 12
     ∷ [])
-    ≡ replicate 5 Accepted
+    ≡ replicate 4 Accepted
 unfolding judged tooShort badSide short badKernel badBackground beyondOf firstBad firstFrom
 accepted-at-the-ends = refl
+
+-- computed up to number 6, which zeros do not meet
+longest-accepted : verdictOf (call 1024 1 (pos 0) Wrapped (replicate 1024 (pos 0)) 1024 6144) ≡ Accepted
+unfolding judged tooShort badSide short badKernel badBackground beyondOf
+longest-accepted = rw (one-number-good range 1024 1 1024 (pos 0) (lit≤ tt) (lit≤ tt)) refl
 
 -- one past each end, and each buffer one place short
 refused-past-the-ends :

@@ -10,7 +10,7 @@ use native.Mathlib.Omega.{arith}
 use borrow.Author.Tests.{ltb-true, ltb-false}
 use lib.Arith.{digits-div, digits-mod}
 use lib.Dec.{ltb}
-use lib.ListN.{getD, take, drop}
+use lib.ListN.{getD, take, drop, replicate, getD-replicate}
 use lib.Seq.{getD-take, getD-drop}
 use lib.IntN.{ℤ, pos, natAbs}
 use Rattle.lists.specs.Line.{line}
@@ -189,3 +189,8 @@ module _ (limit width height : ℕ) (s : List ℤ) where
 
           joined : y * width + x ≡ p .place
           joined = ap₂ (λ (a b : ℕ). a * width + b) (p .row-is) (p .column-is) ∙ div-add-mod' (p .place) width
+
+-- a picture of one number within the limit has no such sample: what would take long to compute
+pub one-number-good : (limit width height n : ℕ) (v : ℤ) → height * width ≤ n → natAbs v ≤ limit → firstBad limit width height (replicate n v) ≡ Nothing
+one-number-good limit width height n v enough h =
+    nothing-bad limit width height (replicate n v) .1 (λ i l. rw (getD-replicate n i v (pos 0) (omega arith)) h)
