@@ -184,6 +184,18 @@ fn the_unit_of_a_sample() {
     assert!(said > 3, "the header says in which unit samples are");
 }
 
+/// The numbers that a caller hands in beside samples, to stand among them or to be compared with them.
+#[test]
+fn the_unit_of_a_number_beside_samples() {
+    let header = read("include/straightener.h");
+    for (name, times) in [("threshold", 1), ("background", 3)] {
+        let begin = format!(" *   {name} ");
+        let said: Vec<_> = header.lines().filter(|line| line.starts_with(&begin)).collect();
+        assert_eq!(said.len(), times, "{name}");
+        assert!(said.iter().all(|line| line.contains("units of 1/128 grey")), "{said:?}");
+    }
+}
+
 /// The layout of a struct as `tests/c/layout.c` prints it: its size and the place of each field.
 macro_rules! layout {
     ($name:ident: $($field:ident)+) => {
