@@ -5,14 +5,13 @@ use mathlib.Core.Path.{_≡_, refl, sym, ap, _∙_}
 use mathlib.Core.Bool.{Bool, true, false, true≢false}
 use mathlib.Core.List.{List, [], _∷_, map}
 use mathlib.Core.Logic.{_↔_}
-use native.Mathlib.Nat.{div-lt-iff-lt-mul, le-div-iff-mul-le}
 use native.Mathlib.Omega.{arith}
 use lib.IntN.{ℤ, pos, negsuc, natAbs, _+ℤ_, _-ℤ_, _*ℤ_}
 use lib.ListN.{getD}
-use lib.Signed.{shrZ, ltZ}
+use lib.Signed.{shrZ, ltZ, _≤ℤ_}
 use Rattle.arith.specs.Whole.{floor, round}
-use Rattle.arith.proofs.Bridge.{bridge, prod}
-use Rattle.arith.proofs.Round.{round-error}
+use Rattle.arith.proofs.Bridge.{bridge, prod, all1}
+use Rattle.arith.proofs.Round.{round-between, round-error}
 use Rattle.arith.proofs.Machine.{lt-true, true-lt}
 use Rattle.refusals.specs.declared.Found.the-variants.{Nothing, At}
 use Rattle.refusals.specs.Tests.{firstFrom}
@@ -40,98 +39,80 @@ rows-half = refl
 abbrev pub small : List ℤ
 small = pos 9 ∷ pos 8 ∷ pos 7 ∷ pos 6 ∷ pos 5 ∷ negsuc 0 ∷ pos 5 ∷ pos 2 ∷ pos 9 ∷ pos 9 ∷ pos 9 ∷ pos 1 ∷ []
 
--- of 9, -1, 5 and 1 the second is the first below 0, the first is it below 10 and below the largest number of 32 bits, and none is below the smallest
+-- the line looks at 9, -1, 5 and 1: below 0 the first is -1, below 10 and below the largest number of 32 bits it is 9, and below the smallest there is none
 found-down :
     map (λ (t : ℤ). firstBelow 4 down t small) (pos 0 ∷ pos 10 ∷ pos 2147483647 ∷ negsuc 2147483647 ∷ []) ≡ At 1 1 ∷ At 0 0 ∷ At 0 0 ∷ Nothing ∷ []
 unfolding firstBelow firstFrom rowAt floor
 found-down = refl
 
--- from (1, 2) to (3, 2), of 9, 9 and 1 the last, in the column of x2, is below 2 and not below 1
+-- from (1, 2) to (3, 2) it looks at 9, 9 and 1: the last, in the column of x2, is below 2 and not below 1
 found-across : map (λ (t : ℤ). firstBelow 4 (record { x1 = 1; y1 = 2; x2 = 3; y2 = 2 }) t small) (pos 2 ∷ pos 1 ∷ []) ≡ At 2 3 ∷ Nothing ∷ []
 unfolding firstBelow firstFrom rowAt floor
 found-across = refl
 
--- ---- the row, i columns on and j to go: a mean of the two rows
-mean : ℕ → ℕ → ℕ → ℕ → ℕ
-mean y1 y2 i j = (2 * (y1 * j + y2 * i) + (i + j)) / (2 * (i + j))
-
-apart : (x1 i j : ℕ) → pos (x1 + i + j) -ℤ pos x1 ≡ pos (i + j)
-apart = simp bridge (omega arith)
-
-dividend : (x1 y1 y2 i j : ℕ)
-    → pos 2 *ℤ (pos y1 *ℤ pos (i + j) +ℤ (pos y2 -ℤ pos y1) *ℤ (pos (x1 + i) -ℤ pos x1)) +ℤ pos (i + j) ≡ pos (2 * (y1 * j + y2 * i) + (i + j))
-dividend = simp bridge (omega arith)
-
-row-mean : (x1 y1 y2 i j : ℕ) → pos (mean y1 y2 i j) ≡ rowAt (record { x1 = x1; y1 = y1; x2 = x1 + i + j; y2 = y2 }) (x1 + i)
-unfolding rowAt floor mean
-row-mean x1 y1 y2 i j = rw (apart x1 i j) (ap (λ (z : ℤ). shrZ z (2 * (i + j))) (sym (dividend x1 y1 y2 i j)))
-
+-- ---- the row in a column from x1 to x2: y1·dx + dy·(x - x1), which is dx times the line's own row there, rounded over dx
 difference : (a b : ℕ) → a ≤ b → pos b -ℤ pos a ≡ pos (b - a)
 difference = simp bridge (omega arith)
 
--- a mean lies between what it is made of
-module _ (y1 y2 i j : ℕ) (some : 0 < i + j) where
-  twice : 0 < 2 * (i + j)
-  twice = omega arith
+-- i columns on and j to go, that is a mean of the two rows
+mean : (x1 y1 y2 i j : ℕ)
+    → pos 2 *ℤ (pos y1 *ℤ pos (i + j) +ℤ (pos y2 -ℤ pos y1) *ℤ (pos (x1 + i) -ℤ pos x1)) +ℤ pos (i + j) ≡ pos (2 * (y1 * j + y2 * i) + (i + j))
+mean = simp bridge (omega arith)
 
-  mean-low : (lo : ℕ) → lo ≤ y1 → lo ≤ y2 → lo ≤ mean y1 y2 i j
-  unfolding mean
-  mean-low lo a b =
-      let left : 0 ≤ i = omega arith in
-      let right : 0 ≤ j = omega arith in
-      le-div-iff-mul-le twice .1 (omega (arith, prod a right, prod b left))
+mean-low : (x1 y1 y2 i j lo : ℕ) → lo ≤ y1 → lo ≤ y2
+    → (pos (i + j) *ℤ pos lo) ≤ℤ (pos y1 *ℤ pos (i + j) +ℤ (pos y2 -ℤ pos y1) *ℤ (pos (x1 + i) -ℤ pos x1))
+mean-low = simp bridge (λ (x1 y1 y2 i j lo : ℕ) a b. let z : 0 ≤ i = omega arith in let w : 0 ≤ j = omega arith in omega (arith, prod a w, prod b z))
 
-  mean-high : (hi : ℕ) → y1 ≤ hi → y2 ≤ hi → mean y1 y2 i j < suc hi
-  unfolding mean
-  mean-high hi a b =
-      let left : 0 ≤ i = omega arith in
-      let right : 0 ≤ j = omega arith in
-      div-lt-iff-lt-mul twice .1 (omega (arith, prod a right, prod b left))
+mean-high : (x1 y1 y2 i j hi : ℕ) → y1 ≤ hi → y2 ≤ hi
+    → (pos y1 *ℤ pos (i + j) +ℤ (pos y2 -ℤ pos y1) *ℤ (pos (x1 + i) -ℤ pos x1)) ≤ℤ (pos (i + j) *ℤ pos hi)
+mean-high = simp bridge (λ (x1 y1 y2 i j hi : ℕ) a b. let z : 0 ≤ i = omega arith in let w : 0 ≤ j = omega arith in omega (arith, prod a w, prod b z))
 
--- ---- in a column from x1 to x2
+natural : (z : ℤ) (lo hi : ℕ) → pos lo ≤ℤ z → z ≤ℤ pos hi → (lo ≤ natAbs z) × (natAbs z ≤ hi)
+natural = all1 _ (simp bridge (omega arith))
+
 module _ (p : Points) (x : ℕ) (points : Rightward p) (from : p .x1 ≤ x) (to : x ≤ p .x2) where
-  -- the row that the code computes
-  abbrev row : ℕ
-  row = (2 * (p .y1 * (p .x2 - x) + p .y2 * (x - p .x1)) + (p .x2 - p .x1)) / (2 * (p .x2 - p .x1))
+  abbrev dx : ℕ
+  dx = p .x2 - p .x1
+
+  abbrev scaled : ℤ
+  scaled = pos (p .y1) *ℤ pos dx +ℤ (pos (p .y2) -ℤ pos (p .y1)) *ℤ (pos x -ℤ pos (p .x1))
 
   on : p .x1 + (x - p .x1) ≡ x
   on = omega arith
 
-  end : p .x1 + (x - p .x1) + (p .x2 - x) ≡ p .x2
-  end = omega arith
-
-  all : (x - p .x1) + (p .x2 - x) ≡ p .x2 - p .x1
+  all : (x - p .x1) + (p .x2 - x) ≡ dx
   all = omega arith
 
-  pub row-is : pos row ≡ rowAt p x
-  unfolding mean
-  row-is = rw (all, end, on) at (row-mean (p .x1) (p .y1) (p .y2) (x - p .x1) (p .x2 - x))
+  some : 0 < dx
+  some = omega (arith, points .apart)
 
-  -- nothing is lost by writing it as a natural number
-  pub row-natural : natAbs (rowAt p x) ≡ row
-  row-natural = ap natAbs (sym row-is)
+  row-rounded : rowAt p x ≡ round scaled dx
+  unfolding rowAt round
+  row-rounded = rw (difference (p .x1) (p .x2) (omega arith)) refl
+
+  -- as the code computes it, of natural numbers alone
+  pub row-is : pos ((2 * (p .y1 * (p .x2 - x) + p .y2 * (x - p .x1)) + dx) / (2 * dx)) ≡ rowAt p x
+  unfolding round floor
+  row-is =
+      let e = rw (on, all) at (mean (p .x1) (p .y1) (p .y2) (x - p .x1) (p .x2 - x)) in
+      ap (λ (z : ℤ). shrZ z (2 * dx)) (sym e) ∙ sym row-rounded
+
+  -- it is natural, so that nothing is lost by `natAbs`
+  pub row-natural : pos (natAbs (rowAt p x)) ≡ rowAt p x
+  row-natural = ap (λ (z : ℤ). pos (natAbs z)) (sym row-is) ∙ row-is
 
   pub row-between : (min (p .y1) (p .y2) ≤ natAbs (rowAt p x)) × (natAbs (rowAt p x) ≤ max (p .y1) (p .y2))
-  unfolding mean
   row-between =
-      let some : 0 < (x - p .x1) + (p .x2 - x) = omega (arith, points .apart) in
-      let low = mean-low (p .y1) (p .y2) (x - p .x1) (p .x2 - x) some (min (p .y1) (p .y2)) (omega arith) (omega arith) in
-      let high = mean-high (p .y1) (p .y2) (x - p .x1) (p .x2 - x) some (max (p .y1) (p .y2)) (omega arith) (omega arith) in
-      rw (row-natural, ← all) (low, omega (arith, high))
+      let lo = min (p .y1) (p .y2) in
+      let hi = max (p .y1) (p .y2) in
+      let low = rw (on, all) at (mean-low (p .x1) (p .y1) (p .y2) (x - p .x1) (p .x2 - x) lo (omega arith) (omega arith)) in
+      let high = rw (on, all) at (mean-high (p .x1) (p .y1) (p .y2) (x - p .x1) (p .x2 - x) hi (omega arith) (omega arith)) in
+      let between = round-between scaled dx some low high in
+      rw row-rounded (natural (round scaled dx) lo hi (between .0) (between .1))
 
-  -- no row is nearer to the line: dx times it is off y1·dx + dy·(x - x1) by half of dx at most
-  abbrev dx : ℕ
-  dx = p .x2 - p .x1
-
-  abbrev height : ℤ
-  height = pos (p .y1) *ℤ pos dx +ℤ (pos (p .y2) -ℤ pos (p .y1)) *ℤ (pos x -ℤ pos (p .x1))
-
-  row-rounded : rowAt p x ≡ round height dx
-  unfolding rowAt round
-  row-rounded = rw (difference (p .x1) (p .x2) (omega (arith, points .apart))) refl
-
-  pub row-nearest : 2 * natAbs (pos dx *ℤ rowAt p x -ℤ height) ≤ dx
-  row-nearest = rw row-rounded (round-error height dx (omega (arith, points .apart)))
+  -- it lies within half a row of the line, so that no row is nearer
+  pub row-nearest : 2 * natAbs (pos dx *ℤ rowAt p x -ℤ scaled) ≤ dx
+  row-nearest = rw row-rounded (round-error scaled dx some)
 
 -- the sample there, by that row
 pub looked-is : (width : ℕ) (p : Points) (picture : List ℤ) (y x : ℕ) → pos y ≡ rowAt p x → lookedAt width p picture x ≡ getD picture (y * width + x) (pos 0)
@@ -176,7 +157,7 @@ module _ (width : ℕ) (p : Points) (threshold : ℤ) (picture : List ℤ) (poin
       by j a l true e none = absurd (none j (record { from = a; to = l; below = lt-true _ _ e }))
       by j a l false e none = e
 
-  -- a row and a column just where they hold the first that is
+  -- a row and a column that are found hold the first that is
   pub first-below : (height y x : ℕ) → max (p .y1) (p .y2) < height → p .x2 < width → firstBelow width p threshold picture ≡ At y x
       → FirstBelow width height p threshold picture y x
   unfolding firstBelow
@@ -187,7 +168,7 @@ module _ (width : ℕ) (p : Points) (threshold : ℤ) (picture : List ℤ) (poin
       let b = row-between p (s .place) points (f .from) to .1 in
       rw (s .column-is) (record {
         here = record { from = f .from; to = to; below = lt-true _ _ (f .here) };
-        row = ap pos (s .row-is ∙ row-natural p (s .place) points (f .from) to) ∙ row-is p (s .place) points (f .from) to;
+        row = ap pos (s .row-is) ∙ row-natural p (s .place) points (f .from) to;
         earlier = λ j l b. true≢false (sym (true-lt _ _ (b .below)) ∙ f .earlier j (b .from) l);
         inside = (omega (arith, s .row-is, b, high), omega (arith, to, wide));
       })
