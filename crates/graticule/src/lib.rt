@@ -1,24 +1,23 @@
 // Levelling with the picture at hand: the step that levels the line through two points, where no sample on that line is below a threshold. Columns and
 // rows are counted from 0; samples and the threshold are in 128ths of a grey.
 ghost use mathlib.Core.Path.{_≡_};
-ghost use Prim.Native.Nat.{_*_, _≤_};
+ghost use Prim.Native.Nat.{_≤_};
 ghost use lib.ListN.{length};
-ghost use lib.IntN.{pos, _-ℤ_};
+ghost use lib.IntN.{pos};
 ghost use lib.Signed.{_≤ℤ_};
-ghost use Rattle.refusals.specs.Judging.{ofFound, andThen};
-ghost use Rattle.levelling.specs.Level.{largestSide, levelling};
+ghost use Rattle.refusals.specs.Judging.{ofFound};
 ghost use Rattle.graticule.specs.Look.{rowAt, firstBelow, Rightward, Lie};
-ghost use Rattle.graticule.specs.Checked.{pointsOf, judgedPoints, checkedBy, LevelChecked};
+ghost use Rattle.graticule.specs.Checked.{pointsOf, checkedBy, LevelChecked};
 use levelling::Levelled;
 use refusals::Found;
 use refusals::Verdict;
 
 // Two points inside a picture, by column and row.
-pub struct Points {
-    pub x1: usize,
-    pub y1: usize,
-    pub x2: usize,
-    pub y2: usize,
+struct Points {
+    x1: usize,
+    y1: usize,
+    x2: usize,
+    y2: usize,
 }
 
 // What the call answers: the step, 0 where it is refused.
@@ -91,33 +90,6 @@ fn points_of(x1: i32, y1: i32, x2: i32, y2: i32) -> Points
     }
 }
 
-// Numbers 7, 8 and 15 and the step, of a picture that passed 1, 2 and 6.
-fn check_points(
-    width: usize,
-    height: usize,
-    x1: i32,
-    y1: i32,
-    x2: i32,
-    y2: i32,
-    threshold: i32,
-    picture: &[i32],
-) -> Checked
-    requires { ⌜ (width ≤ largestSide) × (height ≤ largestSide) × (height * width ≤ length (now picture)) ⌝ }
-    ensures { λ r. ⌜ r ≡ checkedBy (andThen (judgedPoints width height x1 y1 x2 y2) (ofFound 15 (firstBelow width (pointsOf x1 y1 x2 y2) threshold (now (picture .entry))))) (levelling (x2 -ℤ x1) (y2 -ℤ y1)) ⌝ }
-{
-    let levelled = levelling::level_within(width, height, x1, y1, x2, y2);
-    match levelled {
-        Levelled::Refused(number) => Checked {
-            verdict: Verdict::Refused(number, 0, 0),
-            step: 0,
-        },
-        Levelled::Step(t) => {
-            let points = points_of(x1, y1, x2, y2);
-            check_line(picture, width, points, threshold, t)
-        }
-    }
-}
-
 // The step that levels the line from (x1, y1) to (x2, y2), where no sample on that line is below the threshold. It refuses: 1 a side of 0 or over 1,024;
 // 2 a picture of under W·H places; 6 a sample beyond ±1,048,576, the first by its row and column; 7 a point outside the picture; 8 a line too steep; 15 a
 // sample on the line below the threshold, the first by its row and column.
@@ -136,6 +108,18 @@ pub fn level_checked(
     let verdict = readings::judge(width, height, picture.len(), picture);
     match verdict {
         Verdict::Refused(_, _, _) => Checked { verdict, step: 0 },
-        Verdict::Accepted => check_points(width, height, x1, y1, x2, y2, threshold, picture),
+        Verdict::Accepted => {
+            let levelled = levelling::level_within(width, height, x1, y1, x2, y2);
+            match levelled {
+                Levelled::Refused(number) => Checked {
+                    verdict: Verdict::Refused(number, 0, 0),
+                    step: 0,
+                },
+                Levelled::Step(t) => {
+                    let points = points_of(x1, y1, x2, y2);
+                    check_line(picture, width, points, threshold, t)
+                }
+            }
+        }
     }
 }
