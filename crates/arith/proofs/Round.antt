@@ -11,7 +11,7 @@ use lib.IntN.{ℤ, pos, negsuc, negℤ, natAbs, _+ℤ_, _-ℤ_, _*ℤ_, +ℤ-idr
 use lib.Signed.{_≤ℤ_, _<ℤ_, shrZ, quotZ, remZ, ≤ℤ-refl}
 use Rattle.arith.specs.Whole.{floor, remainder, round}
 use Rattle.arith.proofs.Bridge.{bridge, all1, all2, all3, all4}
-use Rattle.arith.proofs.Laws.{≤ℤ-antisym, ≤ℤ-of-<ℤ, positive, *ℤ-cancel-<ℤ}
+use Rattle.arith.proofs.Laws.{≤ℤ-antisym, ≤ℤ-of-<ℤ, pos-nonNeg, positive, *ℤ-cancel-<ℤ}
 
 -- ---- rounded down
 pub record Floor (z : ℤ) (m : ℕ) (q : ℤ) : Type 0 where
@@ -290,6 +290,19 @@ quot-floor-neg (pos (suc a)) m h = absurd (above a h)
     above : (a : ℕ) → pos (suc a) ≤ℤ pos 0 → ⊥
     above = simp bridge (omega arith)
 quot-floor-neg (negsuc a) m h = refl
+
+-- and neither at a multiple of the divisor
+pub quot-exact : (k : ℤ) (m : ℕ) → 0 < m → quotZ (pos m *ℤ k) (pos m) ≡ k
+quot-exact (pos k) m h = quot-floor (pos m *ℤ pos k) m (pos-nonNeg (m * k)) ∙ floor-exact (pos k) m h
+quot-exact (negsuc k) m h =
+    quot-floor-neg (pos m *ℤ negsuc k) m (below m k)
+    ∙ ap negℤ (ap (λ z. floor z m) (turned m k) ∙ floor-exact (pos (suc k)) m h)
+  where
+    below : (m k : ℕ) → (pos m *ℤ negsuc k) ≤ℤ pos 0
+    below = simp bridge (omega arith)
+
+    turned : (m k : ℕ) → negℤ (pos m *ℤ negsuc k) ≡ pos m *ℤ pos (suc k)
+    turned = simp bridge (omega arith)
 
 -- rounded down at no positive dividend, by `/`: -((m - 1 - z) / m)
 pub floor-quot-neg : (z : ℤ) (m : ℕ) → 0 < m → z ≤ℤ pos 0 → floor z m ≡ negℤ (quotZ (pos (m - 1) -ℤ z) (pos m))

@@ -1,9 +1,10 @@
-// Whole numbers: a wider type, remainders, the parts of a move as document 01 takes them, neighbours in a cyclic line, the lower and the higher of two.
+// Whole numbers: a wider type, remainders, rounding, the parts of a move as document 01 takes them, neighbours in a cyclic line, the lower and the higher
+// of two.
 ghost use mathlib.Core.Path.{_≡_};
 ghost use Prim.Native.Nat.{_+_, _-_, _%_, _<_, _≤_, min, max};
 ghost use lib.IntN.{pos, natAbs};
 ghost use lib.Signed.{_≤ℤ_};
-ghost use Rattle.arith.specs.Whole.{remainder};
+ghost use Rattle.arith.specs.Whole.{remainder, round};
 ghost use Rattle.arith.specs.Move.{fraction, whole};
 
 // A number of 32 bits as one of 64.
@@ -23,6 +24,15 @@ pub fn floor_remainder(z: i64, m: i64) -> i64
         return r + m;
     }
     r
+}
+
+// p / r to the nearest, halves upward.
+pub fn rounded(p: i64, r: i64) -> i64
+    requires { ⌜ (natAbs p ≤ 6917529027641081856) × (pos 1 ≤ℤ r) × (r ≤ℤ pos 576460752303423488) ⌝ }
+    ensures { λ q. ⌜ q ≡ round p (natAbs r) ⌝ }
+{
+    let raised = p + r / 2;
+    (raised - floor_remainder(raised, r)) / r
 }
 
 // Place k of a line of n places, taken modulo n.

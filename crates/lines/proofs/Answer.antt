@@ -3,7 +3,7 @@
 use mathlib.Core.Path.{_≡_, refl, sym, ap, _∙_, subst}
 use mathlib.Core.Bool.{Bool, false, _||_, cond}
 use mathlib.Core.List.{List, _++_}
-use Prim.Native.Nat.{ℕ, _+_, _*_, _-_, _≤_, _<_}
+use Prim.Native.Nat.{ℕ, _+_, _*_, _-_, _≤_, _<_, min}
 use native.Mathlib.Omega.{arith}
 use lib.Dec.{ltb}
 use lib.IntN.{ℤ, pos, natAbs}
@@ -35,47 +35,68 @@ use Rattle.moves.specs.Row.{places, setIn, startAt, held, Covers, loadedOf, wei
 use Rattle.moves.proofs.Border.{moveIn-length, held-fraction, background-good}
 use Rattle.moves.proofs.Kept.{kept-in-place}
 use Rattle.moves.proofs.Range.{background-between, samples-between, extremes-in-range, moveIn-between, kernel-linear}
+use Rattle.lines.specs.declared.LineOutcome.{LineOutcome}
 use Rattle.lines.specs.declared.LineOutcome.the-variants.{Moved, Refused}
-use Rattle.lines.specs.Answer.{farthest, range, workPlaces, tooShort, judged, Movable, isInterpolated, outcomeOf, LineMoved}
+use Rattle.lines.specs.Answer.{farthest, range, workPlaces, tooShort, judgedBy, Passed, judged, Movable, isInterpolated, outcomeOf, numberOf, LineMoved}
 
 -- the work that number 2 asks for is what a caller is told, of every length that number 1 does not refuse
-pub work-asked : (n line result work : ℕ) → badSide n ≡ false → tooShort n line result work ≡ (short line n || (short result n || short work (workPlaces n)))
+pub work-asked : (n held work : ℕ) → badSide n ≡ false → tooShort n held work ≡ (short held n || short work (workPlaces n))
 unfolding tooShort workPlaces
-work-asked n line result work good = rw good refl
+work-asked n held work good = rw good refl
 
--- what an accepted call has passed
-module _ (n kernel : ℕ) (d : ℤ) (β : Border) (line : List ℤ) (result work : ℕ) where
-  pub accepted : judged n kernel d β line result work ≡ verdict.Accepted → Movable n kernel d β line result work
-  unfolding judged tooShort
-  accepted e =
+-- ---- what an accepted call has passed, and that number 0 says it is accepted
+module _ (n kernel : ℕ) (d : ℤ) (own : ℕ) (applies : Bool) (line : List ℤ) (held work : ℕ) where
+  pub passed : judgedBy n kernel d own applies line held work ≡ verdict.Accepted → (applies ≡ false) × Passed n kernel d line held work
+  unfolding judgedBy tooShort
+  passed e =
       let one = refusedIf-accepted (badSide n) 1 _ e in
-      let two = refusedIf-accepted (tooShort n (length line) result work) 2 _ (one .1) in
+      let two = refusedIf-accepted (tooShort n held work) 2 _ (one .1) in
       let four = refusedIf-accepted (beyondOf farthest d) 4 _ (two .1) in
       let five = refusedIf-accepted (badKernel kernel) 5 _ (four .1) in
-      let twelve = refusedIf-accepted (badBackground β) 12 _ (five .1) in
-      let six = nothing-bad range n 1 line .0 (ofFound-accepted 6 (firstBad range n 1 line) (twelve .1)) in
-      let buffers = or-false (short (length line) n) _ (two .0) in
-      let others = or-false (short result n) _ (buffers .1) in
-      let side = side-good (one .0) in
+      let other = refusedIf-accepted applies own _ (five .1) in
+      let six = nothing-bad range n 1 line .0 (ofFound-accepted 6 (firstBad range n 1 line) (other .1)) in
+      let buffers = or-false (short held n) _ (two .0) in
+      let side = side-good (one .0) in (
+        other .0,
+        record {
+          some = side .0;
+          few = side .1;
+          held-room = short-good (buffers .0);
+          work-room = short-good (buffers .1);
+          near = beyond-good d (four .0);
+          known = kernel-good (five .0);
+          samples = λ k l. six k (omega arith);
+        },
+      )
+
+  pub by-zero : (own ≡ 0 → ⊥) → AcceptedByZero (judgedBy n kernel d own applies line held work)
+  unfolding judgedBy
+  by-zero some =
+      by-zero-if (badSide n) 1 _ (λ e. omega arith) (by-zero-if (tooShort n held work) 2 _ (λ e. omega arith)
+      (by-zero-if (beyondOf farthest d) 4 _ (λ e. omega arith) (by-zero-if (badKernel kernel) 5 _ (λ e. omega arith)
+      (by-zero-if applies own _ some (by-zero-found 6 (firstBad range n 1 line) (λ e. omega arith))))))
+
+-- the same of a move
+module _ (n kernel : ℕ) (d : ℤ) (β : Border) (line : List ℤ) (result work : ℕ) where
+  pub accepted : judged n kernel d β line result work ≡ verdict.Accepted → Movable n kernel d β line result work
+  unfolding judged
+  accepted e =
+      let (plain, p) = passed n kernel d 12 (badBackground β) line (min (length line) result) work e in
       record {
-        some = side .0;
-        few = side .1;
-        line-room = short-good (buffers .0);
-        result-room = short-good (others .0);
-        work-room = short-good (others .1);
-        near = beyond-good d (four .0);
-        known = kernel-good (five .0);
-        plain = background-good β (twelve .0);
-        samples = λ k l. six k (omega arith);
+        some = p .some;
+        few = p .few;
+        line-room = omega (arith, p .held-room);
+        result-room = omega (arith, p .held-room);
+        work-room = p .work-room;
+        near = p .near;
+        known = p .known;
+        plain = background-good β plain;
+        samples = p .samples;
       }
 
--- number 0 says that the call is accepted
-pub zero-accepted : (n kernel : ℕ) (d : ℤ) (β : Border) (line : List ℤ) (result work : ℕ) → AcceptedByZero (judged n kernel d β line result work)
-unfolding judged
-zero-accepted n kernel d β line result work =
-    by-zero-if (badSide n) 1 _ (λ e. omega arith) (by-zero-if (tooShort n (length line) result work) 2 _ (λ e. omega arith)
-    (by-zero-if (beyondOf farthest d) 4 _ (λ e. omega arith) (by-zero-if (badKernel kernel) 5 _ (λ e. omega arith)
-    (by-zero-if (badBackground β) 12 _ (λ e. omega arith) (by-zero-found 6 (firstBad range n 1 line) (λ e. omega arith))))))
+  pub zero-accepted : AcceptedByZero (judged n kernel d β line result work)
+  unfolding judged
+  zero-accepted = by-zero n kernel d 12 (badBackground β) line (min (length line) result) work (λ e. omega arith)
 
 -- ---- the places of the result that hold the moved line
 module _ {n kernel : ℕ} {d : ℤ} {β : Border} {line₀ : List ℤ} {result work : ℕ} (m : Movable n kernel d β line₀ result work) where
@@ -144,6 +165,20 @@ module _ (n kernel : ℕ) (d : ℤ) (β : Border) (line result work : List ℤ) 
 
       within : kernel ≡ 0 → InRange β n line result′
       within linear = subst (InRange β n line) (sym r) (moved-in-range m (drop n result) linear)
+
+-- ---- a call that answers number 0: it was accepted, and its result holds the moved line
+module _ {n kernel : ℕ} {d : ℤ} {β : Border} {line₁ result work result′ work′ : List ℤ} {r : LineOutcome}
+    (a : LineMoved n kernel d β line₁ result work result′ work′ r) (zero : numberOf r ≡ 0) where
+  pub was-accepted : judged n kernel d β line₁ (length result) (length work) ≡ verdict.Accepted
+  was-accepted = zero-accepted n kernel d β line₁ (length result) (length work) (sym (a .number) ∙ zero)
+
+  pub was-movable : Movable n kernel d β line₁ (length result) (length work)
+  was-movable = accepted n kernel d β line₁ (length result) (length work) was-accepted
+
+  pub was-moved : (k : ℕ) → k < n → line result′ k ≡ line (moveIn β (kernelOf kernel) d (take n line₁)) k
+  was-moved k l =
+      ap (λ (t : List ℤ). line t k) (a .result ∙ ap (λ v. whenAccepted v (moveIn β (kernelOf kernel) d (take n line₁) ++ drop n result) result) was-accepted)
+      ∙ moved-at was-movable (drop n result) k l
 
 -- ---- the buffers
 -- the first n places of a line are the line from its first place on

@@ -23,7 +23,7 @@ use Rattle.kernels.specs.Kernel.{weigh, Keys}
 use Rattle.moves.specs.Move.{first, mixed, source, moved}
 use Rattle.moves.specs.Border.{far, gone, fractionIn, bordered, moveIn, badBackground}
 use Rattle.lines.specs.declared.LineOutcome.{LineOutcome}
-use Rattle.lines.specs.Answer.{range, workPlaces, tooShort, judged, isInterpolated, outcomeOf, numberOf, rowOf, columnOf, countOf, smallestOf, largestOf}
+use Rattle.lines.specs.Answer.{range, workPlaces, tooShort, judgedBy, judged, isInterpolated, outcomeOf, numberOf, rowOf, columnOf, countOf, smallestOf, largestOf}
 
 -- the work places of lengths at both ends, and of those one past each
 asked : map workPlaces (1 ∷ 7 ∷ 1024 ∷ 0 ∷ 1025 ∷ []) ≡ 6 ∷ 42 ∷ 6144 ∷ 0 ∷ 0 ∷ []
@@ -60,12 +60,12 @@ accepted-at-the-ends :
     ∷ call 2 0 (pos 1) (Background (negsuc 32766)) ends 2 12
     ∷ [])
     ≡ replicate 4 Accepted
-unfolding judged tooShort badSide short badKernel badBackground beyondOf firstBad firstFrom
+unfolding judged judgedBy tooShort badSide short badKernel badBackground beyondOf firstBad firstFrom
 accepted-at-the-ends = refl
 
 -- computed up to number 6, which zeros do not meet
 longest-accepted : verdictOf (call 1024 1 (pos 0) Wrapped (replicate 1024 (pos 0)) 1024 6144) ≡ Accepted
-unfolding judged tooShort badSide short badKernel badBackground beyondOf
+unfolding judged judgedBy tooShort badSide short badKernel badBackground beyondOf
 longest-accepted = rw (one-number-good range 1024 1 1024 (pos 0) (lit≤ tt) (lit≤ tt)) refl
 
 -- one past each end, and each buffer one place short
@@ -93,14 +93,14 @@ refused-past-the-ends :
     ∷ Refused 12 0 0
     ∷ Refused 12 0 0
     ∷ []
-unfolding judged tooShort badSide short badKernel badBackground beyondOf firstBad firstFrom
+unfolding judged judgedBy tooShort badSide short badKernel badBackground beyondOf firstBad firstFrom
 refused-past-the-ends = refl
 
 -- the first sample past its range, above or below, in row 0, whatever comes after it; not one that is past the n samples
 first-bad-sample :
     map verdictOf (call 3 0 (pos 0) Wrapped past 3 18 ∷ call 4 0 (pos 0) Wrapped below 4 24 ∷ call 2 0 (pos 0) Wrapped below 2 12 ∷ [])
     ≡ Refused 6 0 1 ∷ Refused 6 0 2 ∷ Accepted ∷ []
-unfolding judged tooShort badSide short badKernel badBackground beyondOf firstBad firstFrom
+unfolding judged judgedBy tooShort badSide short badKernel badBackground beyondOf firstBad firstFrom
 first-bad-sample = refl
 
 -- of two neighbouring numbers that both apply the one that is judged first is told: 12 stands between 5 and 6
@@ -113,7 +113,7 @@ first-of-two :
     ∷ call 3 2 (pos 0) (Background (pos 32768)) past 3 18
     ∷ [])
     ≡ Refused 1 0 0 ∷ Refused 2 0 0 ∷ Refused 4 0 0 ∷ Refused 5 0 0 ∷ Refused 12 0 0 ∷ []
-unfolding judged tooShort badSide short badKernel badBackground beyondOf firstBad firstFrom
+unfolding judged judgedBy tooShort badSide short badKernel badBackground beyondOf firstBad firstFrom
 first-of-two = refl
 
 -- number, row, column and count: of a refused call, of a move by a 4,096th of a sample either way, of one by a whole sample, and on background of
@@ -137,7 +137,7 @@ figures-of-outcomes :
     ∷ (0 ∷ 0 ∷ 0 ∷ 0 ∷ [])
     ∷ (0 ∷ 0 ∷ 0 ∷ 1 ∷ [])
     ∷ []
-unfolding outcomeOf isInterpolated fractionIn gone far fraction remainder floor judged tooShort badSide short badKernel badBackground beyondOf firstBad firstFrom
+unfolding outcomeOf isInterpolated fractionIn gone far fraction remainder floor judged judgedBy tooShort badSide short badKernel badBackground beyondOf firstBad firstFrom
 figures-of-outcomes = refl
 
 -- the smallest and the largest output sample: a steep edge of 1,000 and 9,000 units, moved by half a sample under Keys, overshoots by 500 on either
@@ -153,5 +153,5 @@ extremes-of-outcomes :
     ∷ extremes (call 3 1 (pos 2048) Wrapped past 3 18) (pos 5 ∷ pos 6 ∷ pos 7 ∷ [])
     ∷ []
     ≡ (pos 500 ∷ pos 9500 ∷ []) ∷ (pos 0 ∷ pos 0 ∷ []) ∷ []
-unfolding outcomeOf picked minℤ maxℤ moveIn bordered moved source mixed first weigh Σ wrap tab round whole isInterpolated fractionIn gone far fraction remainder floor judged tooShort badSide short badKernel badBackground beyondOf firstBad firstFrom
+unfolding outcomeOf picked minℤ maxℤ moveIn bordered moved source mixed first weigh Σ wrap tab round whole isInterpolated fractionIn gone far fraction remainder floor judged judgedBy tooShort badSide short badKernel badBackground beyondOf firstBad firstFrom
 extremes-of-outcomes = refl

@@ -23,29 +23,17 @@ use Rattle.moves.proofs.Nearly.{moveIn-nearly}
 use Rattle.lines.specs.declared.LineOutcome.{LineOutcome}
 use Rattle.lines.specs.Answer.{judged, Movable, isInterpolated, outcomeOf, numberOf, countOf, smallestOf, largestOf, LineMoved}
 use Rattle.lines.specs.Raised.{BothMoved, LineRaised}
-use Rattle.lines.proofs.Answer.{accepted, zero-accepted, taken, moved-at}
+use Rattle.lines.proofs.Answer.{taken, was-accepted, was-movable, was-moved}
 
 -- the figures of an accepted call: the extremes of the first n samples that it left, and whether the line is interpolated
 abbrev Told : ℕ → ℤ → Border → List ℤ → LineOutcome → Type 0
 Told n d β result′ r = (smallestOf r ≡ smallest (line result′) n) × (largestOf r ≡ largest (line result′) n) × (countOf r ≡ cond (isInterpolated β n d) 1 0)
 
--- ---- a call that answers number 0: it was accepted, and its result holds the moved line
 module _ {n kernel : ℕ} {d : ℤ} {β : Border} {line₁ result work result′ work′ : List ℤ} {r : LineOutcome}
     (a : LineMoved n kernel d β line₁ result work result′ work′ r) (zero : numberOf r ≡ 0) where
-  was-accepted : judged n kernel d β line₁ (length result) (length work) ≡ Accepted
-  was-accepted = zero-accepted n kernel d β line₁ (length result) (length work) (sym (a .number) ∙ zero)
-
-  was-movable : Movable n kernel d β line₁ (length result) (length work)
-  was-movable = accepted n kernel d β line₁ (length result) (length work) was-accepted
-
-  was-moved : (k : ℕ) → k < n → line result′ k ≡ line (moveIn β (kernelOf kernel) d (take n line₁)) k
-  was-moved k l =
-      ap (λ (t : List ℤ). line t k) (a .result ∙ ap (λ v. whenAccepted v (moveIn β (kernelOf kernel) d (take n line₁) ++ drop n result) result) was-accepted)
-      ∙ moved-at was-movable (drop n result) k l
-
   was-told : Told n d β result′ r
   unfolding outcomeOf
-  was-told = rw (a .outcome, was-accepted) (refl, refl, refl)
+  was-told = rw (a .outcome, was-accepted a zero) (refl, refl, refl)
 
 -- ---- two of them
 module _ {c : ℤ} {n kernel : ℕ} {d : ℤ} {β : Border} {line₁ result work result′ work′ : List ℤ} {r : LineOutcome} {line₂ result₂ work₂ result₂′ work₂′ : List ℤ} {r₂ : LineOutcome}

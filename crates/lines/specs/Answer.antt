@@ -2,7 +2,7 @@
 use mathlib.Core.Path.{_≡_}
 use mathlib.Core.Bool.{Bool, _||_, cond}
 use mathlib.Core.List.{List, _++_}
-use Prim.Native.Nat.{ℕ, _*_, _≤_}
+use Prim.Native.Nat.{ℕ, _*_, _≤_, min}
 use lib.Dec.{ltb}
 use lib.IntN.{ℤ, pos, natAbs}
 use lib.ListN.{length, take, drop, replicate}
@@ -32,21 +32,36 @@ range = 294912
 unfoldable pub workPlaces : ℕ → ℕ
 workPlaces n = cond (badSide n) 0 (6 * n)
 
--- 2: the line or the result under n places, or the work under 6n
-unfoldable pub tooShort : ℕ → ℕ → ℕ → ℕ → Bool
-tooShort n line result work = short line n || (short result n || short work (6 * n))
+-- 2: the shortest of the buffers that hold a line under n places, or the work under 6n
+unfoldable pub tooShort : ℕ → ℕ → ℕ → Bool
+tooShort n held work = short held n || short work (6 * n)
 
--- numbers 1, 2, 4, 5, 12 and 6, for a line that is lent and buffers of `result` and `work` places: 12 is judged after 5 and before 6
-unfoldable pub judged : ℕ → ℕ → ℤ → Border → List ℤ → ℕ → ℕ → Verdict
-judged n kernel d β line result work =
+-- the numbers of every call on a line that is lent: 1, 2, 4, 5, the call's own where it applies, and 6. `held` are the places of the shortest buffer that
+-- holds a line, `work` those of the work
+unfoldable pub judgedBy : ℕ → ℕ → ℤ → ℕ → Bool → List ℤ → ℕ → ℕ → Verdict
+judgedBy n kernel d own applies line held work =
     refusedIf (badSide n) 1
-    (refusedIf (tooShort n (length line) result work) 2
+    (refusedIf (tooShort n held work) 2
     (refusedIf (beyondOf farthest d) 4
     (refusedIf (badKernel kernel) 5
-    (refusedIf (badBackground β) 12
+    (refusedIf applies own
     (ofFound 6 (firstBad range n 1 line))))))
 
--- what an accepted call has passed
+-- what a call that is accepted has passed
+pub record Passed (n kernel : ℕ) (d : ℤ) (line : List ℤ) (held work : ℕ) : Type 0 where
+  pub some : 1 ≤ n
+  pub few : n ≤ 1024
+  pub held-room : n ≤ held
+  pub work-room : 6 * n ≤ work
+  pub near : natAbs d ≤ farthest
+  pub known : kernel ≤ 2
+  pub samples : AllWithin range n line
+
+-- a move's own is 12: it is judged after 5 and before 6
+unfoldable pub judged : ℕ → ℕ → ℤ → Border → List ℤ → ℕ → ℕ → Verdict
+judged n kernel d β line result work = judgedBy n kernel d 12 (badBackground β) line (min (length line) result) work
+
+-- what a move that is accepted has passed
 pub record Movable (n kernel : ℕ) (d : ℤ) (β : Border) (line : List ℤ) (result work : ℕ) : Type 0 where
   pub some : 1 ≤ n
   pub few : n ≤ 1024

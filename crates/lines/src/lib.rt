@@ -8,7 +8,7 @@ ghost use lib.IntN.{pos};
 ghost use Rattle.kernels.specs.Kernel.{kernelOf};
 ghost use Rattle.moves.specs.Border.{moveIn};
 ghost use Rattle.moves.specs.Row.{places};
-ghost use Rattle.lines.specs.Answer.{workPlaces, tooShort, judged, Movable, isInterpolated, LineMoved};
+ghost use Rattle.lines.specs.Answer.{workPlaces, tooShort, judgedBy, Movable, isInterpolated, LineMoved};
 use lists::Extremes;
 use refusals::Verdict;
 use settings::Border;
@@ -35,36 +35,35 @@ pub fn work_places(n: usize) -> usize
     6 * n
 }
 
-// Whether the line or the result has under n places, or the work under 6n.
-fn too_short(n: usize, line: usize, result: usize, work: usize) -> bool
+// Whether the shortest of the buffers that hold a line has under n places, or the work under 6n.
+fn too_short(n: usize, held: usize, work: usize) -> bool
     requires { ⌜ n ≤ 1024 ⌝ }
-    ensures { λ r. ⌜ r ≡ tooShort n line result work ⌝ }
+    ensures { λ r. ⌜ r ≡ tooShort n held work ⌝ }
 {
-    if line < n {
-        return true;
-    }
-    if result < n {
+    if held < n {
         return true;
     }
     work < 6 * n
 }
 
-// Numbers 1, 2, 4, 5, 12 and 6, for buffers of `result` and `work` places.
-fn judge(
+// Numbers 1, 2, 4, 5, the call's `own` where it applies, and 6. The shortest of the buffers that hold a line has `held` places, the work `work`.
+pub fn judge(
     n: usize,
     kernel: u32,
     d: i32,
-    border: Border,
+    own: u32,
+    applies: bool,
     line: &[i32],
-    result: usize,
+    held: usize,
     work: usize,
 ) -> Verdict
-    ensures { λ r. ⌜ r ≡ judged n kernel d border (now (line .entry)) result work ⌝ }
+    requires { ⌜ held ≤ length (now line) ⌝ }
+    ensures { λ r. ⌜ r ≡ judgedBy n kernel d own applies (now (line .entry)) held work ⌝ }
 {
     if refusals::bad_side(n) {
         return Verdict::Refused(1, 0, 0);
     }
-    if too_short(n, line.len(), result, work) {
+    if too_short(n, held, work) {
         return Verdict::Refused(2, 0, 0);
     }
     if refusals::beyond(d, FARTHEST) {
@@ -73,8 +72,8 @@ fn judge(
     if 2 < kernel {
         return Verdict::Refused(5, 0, 0);
     }
-    if moves::bad_background(border) {
-        return Verdict::Refused(12, 0, 0);
+    if applies {
+        return Verdict::Refused(own, 0, 0);
     }
     refusals::scanned(line, n, 1, RANGE)
 }
@@ -160,7 +159,9 @@ pub fn move_line(
 ) -> LineOutcome
     ensures { λ r. ⌜ LineMoved n kernel d border (now (line .entry)) (now (result .entry)) (now (work .entry)) (now (result .exit)) (now (work .exit)) r ⌝ }
 {
-    let verdict = judge(n, kernel, d, border, line, result.len(), work.len());
+    let held = arith::least(line.len(), result.len());
+    let applies = moves::bad_background(border);
+    let verdict = judge(n, kernel, d, 12, applies, line, held, work.len());
     match verdict {
         Verdict::Refused(number, row, column) => LineOutcome::Refused(number, row, column),
         Verdict::Accepted => {

@@ -24,7 +24,7 @@ use moves::Part;
 use settings::Border;
 
 // A line as its kernel weighs it: kernels 0 and 1 the samples, kernel 2 their coefficients.
-fn prepare(line: &mut [i32], kernel: u32)
+pub fn prepare(line: &mut [i32], kernel: u32)
     requires { ⌜ (1 ≤ length (now line)) × (length (now line) ≤ 3072) × (kernel ≤ 2) ⌝ }
     requires { ⌜ (kernel ≡ 2 → AllWithin 294912 (length (now line)) (now line)) ⌝ }
     ensures { λ _. ⌜ now (line .exit) ≡ prepared (kernelOf kernel) (now (line .entry)) ⌝ }
