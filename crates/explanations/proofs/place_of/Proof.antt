@@ -1,0 +1,80 @@
+-- `explanations::place_of` meets its contract: k + q - 1 + i lies far inside 64 bits. Assumes nothing.
+use mathlib.Core.Path.{_≡_, ap, _∙_}
+use Prim.Native.Nat.{_≤_}
+use native.Mathlib.Omega.{arith}
+use borrow.Author.Needs.{needs}
+use lib.IntN.{pos, natAbs, _+ℤ_, _-ℤ_}
+use mir.Syntax.{w64}
+use mir.Val.{toZ, ofZ}
+use mir.Facts.{toZ-ofZ}
+use Rattle.arith.specs.Whole.{remainder}
+use Rattle.arith.specs.Move.{whole}
+use Rattle.arith.proofs.Machine.{read-back}
+use Rattle.arith.proofs.Compute.{nat, arg, num, _+ᵐ_, _-ᵐ_, Sized, nat-sized, arg-sized, num-sized, plus-sized, minus-sized, fit, reads}
+use Rattle.explanations.specs.Made.{placeOf}
+use Rattle.explanations.proofs.Made.{whole-size}
+use Rattle.explanations.proofs.place_of.Statement.{statement}
+use Rattle.explanations.proofs.place_of.Tie as tie
+
+-- d as it was given
+far-is : (c : tie.After-wide) → toZ w64 (ofZ w64 (c .wide .result)) ≡ c .before .args .d
+far-is c = read-back w64 _ (c .wide .ok) ∙ c .wide .ensures ∙ toZ-ofZ (c .before .fits .d)
+
+module _ (c : tie.After-whole-part) where
+  abbrev s : tie.Start
+  s = c .before .before
+
+  whole-is : c .whole-part .result ≡ whole (s .args .d)
+  whole-is = rw (far-is (c .before)) at (c .whole-part .ensures)
+
+  place : Sized {w = w64} (nat (s .args .k) +ᵐ arg (c .whole-part .result) -ᵐ num 1 +ᵐ nat (s .args .i)) 4195332
+  place =
+      let size : natAbs (c .whole-part .result) ≤ 4194304 = rw whole-is (omega (arith, whole-size (s .args .d))) in
+      plus-sized
+      (minus-sized (plus-sized (nat-sized 1024 (omega arith) tt) (arg-sized 4194304 (record { sfits = c .whole-part .ok }) size) tt) (num-sized 1 tt) tt)
+      (nat-sized 3 (omega arith) tt) tt
+
+cast-wrapped : tie.Need-cast-wrapped
+cast-wrapped c = search needs
+
+wide-requires : tie.Need-wide-requires
+wide-requires c κs = search needs
+
+whole-part-requires : tie.Need-whole-part-requires
+whole-part-requires c κs = rw (far-is c) (omega arith)
+
+add-wrapped : tie.Need-add-wrapped
+add-wrapped c = fit 0 (place c)
+
+sub-wrapped : tie.Need-sub-wrapped
+sub-wrapped c = fit 1 (place c)
+
+cast-wrapped-2 : tie.Need-cast-wrapped-2
+cast-wrapped-2 c = search needs
+
+add-wrapped-2 : tie.Need-add-wrapped-2
+add-wrapped-2 c = fit 2 (place c)
+
+wrapped-requires : tie.Need-wrapped-requires
+wrapped-requires c κs = search needs
+
+returns : tie.Need-returns
+unfolding placeOf
+returns c =
+    let a = s (c .before) .args in
+    let w = rw (reads (place (c .before))) at (c .wrapped .ensures) in
+    (w .0 ∙ ap (λ q. remainder (pos (a .k) +ℤ q -ℤ pos 1 +ℤ pos (a .i)) (a .n)) (whole-is (c .before)), w .1)
+
+pub place-of-spec : {M : Type 1} → statement M
+place-of-spec =
+    tie.close
+    (tie.spec
+    cast-wrapped
+    wide-requires
+    whole-part-requires
+    add-wrapped
+    sub-wrapped
+    cast-wrapped-2
+    add-wrapped-2
+    wrapped-requires
+    returns)
