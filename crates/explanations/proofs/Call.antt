@@ -1,26 +1,96 @@
 -- The call: what an accepted one has passed, and its answer in either case. Assumes nothing.
 use mathlib.Core.Path.{_≡_, refl, sym, ap, _∙_, subst}
-use mathlib.Core.List.{List, _++_}
+use mathlib.Core.List.{List, [], _∷_, _++_, map}
 use Prim.Native.Nat.{ℕ, _*_, _≤_, _<_}
 use native.Mathlib.Omega.{arith}
 use borrow.Author.Tests.{leb-false}
 use lib.Dec.{leb}
-use lib.IntN.{ℤ, pos}
+use lib.IntN.{ℤ, pos, negsuc}
 use lib.ListN.{length, take, drop, replicate}
 use lib.Seq.{length-take-le}
 use Rattle.lists.specs.Line.{line}
 use Rattle.refusals.specs.declared.Verdict.{Verdict}
 use Rattle.refusals.specs.declared.Verdict.the-variants.{Accepted, Refused}
+use Rattle.refusals.specs.Tests.{badSide, short, badKernel, beyondOf, firstFrom, firstBad}
 use Rattle.settings.specs.declared.Border.the-variants.{Wrapped}
 use Rattle.kernels.specs.Kernel.{kernelOf}
 use Rattle.moves.specs.Move.{source}
 use Rattle.moves.specs.Border.{moveIn}
+use Rattle.lines.specs.Answer.{tooShort, judgedBy}
 use Rattle.lines.proofs.Answer.{passed}
 use Rattle.explanations.specs.declared.Parts.{Parts}
 use Rattle.explanations.specs.Made.{partsOf, noParts}
 use Rattle.explanations.specs.Answer.{judged, Explainable, sourceOf, explanationOf, Shown, Explained}
 use Rattle.explanations.proofs.Made.{quotient-moved, parts-shown}
 
+-- ---- verdicts at the ends of each range and in the order of the numbers, worked out by the checker
+-- a call: n, the kernel, d, k, the line, and the places of the work
+data Call : Type 0 where
+  call : ℕ → ℕ → ℤ → ℕ → List ℤ → ℕ → Call
+
+abbrev verdictOf : Call → Verdict
+verdictOf (call n kernel d k s work) = judged n kernel d k s work
+
+-- two samples at the ends of their range and one past it
+abbrev three : List ℤ
+three = pos 294912 ∷ negsuc 294911 ∷ pos 294913 ∷ []
+
+-- the first and the last place of a line of two, the farthest moves, a line and a work of just n and 6n places
+accepted-at-the-ends :
+    map verdictOf
+    (call 2 0 (pos 4194304) 0 three 12
+    ∷ call 2 2 (negsuc 4194303) 1 three 12
+    ∷ call 1 1 (pos 0) 0 (pos 5 ∷ []) 6
+    ∷ [])
+    ≡ replicate 3 Accepted
+unfolding judged judgedBy tooShort badSide short badKernel beyondOf firstBad firstFrom
+accepted-at-the-ends = refl
+
+-- one past each end: a place beyond the line is refused though the buffer has it, ahead of a bad sample
+refused-past-the-ends :
+    map verdictOf
+    (call 0 0 (pos 0) 0 three 18
+    ∷ call 1025 0 (pos 0) 0 (replicate 1025 (pos 0)) 6150
+    ∷ call 4 0 (pos 0) 0 three 24
+    ∷ call 2 0 (pos 0) 0 three 11
+    ∷ call 2 0 (pos 4194305) 0 three 12
+    ∷ call 2 0 (negsuc 4194304) 0 three 12
+    ∷ call 2 3 (pos 0) 0 three 12
+    ∷ call 2 0 (pos 0) 2 three 12
+    ∷ call 3 0 (pos 0) 2 three 18
+    ∷ [])
+    ≡ Refused 1 0 0
+    ∷ Refused 1 0 0
+    ∷ Refused 2 0 0
+    ∷ Refused 2 0 0
+    ∷ Refused 4 0 0
+    ∷ Refused 4 0 0
+    ∷ Refused 5 0 0
+    ∷ Refused 7 0 0
+    ∷ Refused 6 0 2
+    ∷ []
+unfolding judged judgedBy tooShort badSide short badKernel beyondOf firstBad firstFrom
+refused-past-the-ends = refl
+
+-- of two neighbouring numbers that both apply the one that is judged first is told: 1, 2, 4, 5, 7, 6
+first-of-two :
+    map verdictOf
+    (call 1025 0 (pos 0) 0 [] 0
+    ∷ call 3 0 (pos 4194305) 0 three 17
+    ∷ call 3 3 (pos 4194305) 0 three 18
+    ∷ call 3 3 (pos 0) 3 three 18
+    ∷ call 3 2 (pos 0) 3 three 18
+    ∷ [])
+    ≡ Refused 1 0 0 ∷ Refused 2 0 0 ∷ Refused 4 0 0 ∷ Refused 5 0 0 ∷ Refused 7 0 0 ∷ []
+unfolding judged judgedBy tooShort badSide short badKernel beyondOf firstBad firstFrom
+first-of-two = refl
+
+-- refused, every figure is 0
+refused-parts : explanationOf 2 0 (pos 0) 2 three 12 ≡ record { verdict = Refused 7 0 0; parts = noParts }
+unfolding explanationOf judged judgedBy tooShort badSide short badKernel beyondOf
+refused-parts = refl
+
+-- ---- what an accepted call has passed
 pub accepted : (n kernel : ℕ) (d : ℤ) (k : ℕ) (s : List ℤ) (work : ℕ) → judged n kernel d k s work ≡ Accepted → Explainable n kernel d k s work
 unfolding judged
 accepted n kernel d k s work e = let (place, p) = passed n kernel d 7 (leb n k) s (length s) work e in record { passed = p; inside = leb-false n k place }

@@ -3,10 +3,10 @@ use mathlib.Core.Path.{_≡_, refl, sym, ap, _∙_, fun-ext}
 use mathlib.Core.List.{List, [], _∷_}
 use Prim.Native.Nat.{ℕ, zero, suc, _+_, _*_, _≤_, _<_}
 use native.Mathlib.Omega.{arith}
-use lib.IntN.{ℤ, pos, negℤ, natAbs, _+ℤ_, _-ℤ_, _*ℤ_}
+use lib.IntN.{ℤ, pos, negsuc, negℤ, natAbs, _+ℤ_, _-ℤ_, _*ℤ_}
 use lib.ListN.{length, getD, take}
 use lib.Seq.{getD-take}
-use Rattle.arith.specs.Whole.{floor, round}
+use Rattle.arith.specs.Whole.{floor, remainder, round}
 use Rattle.arith.specs.Move.{fraction, whole}
 use Rattle.arith.specs.Sum.{Σ}
 use Rattle.arith.proofs.Laws.{natAbs-negℤ}
@@ -18,7 +18,7 @@ use Rattle.lists.proofs.Tab.{tab-at}
 use Rattle.settings.specs.declared.Border.the-variants.{Wrapped}
 use Rattle.kernels.specs.Kernel.{Kernel, kernelOf, weight, weigh, norm, D³}
 use Rattle.kernels.proofs.Weights.{weights-sum}
-use Rattle.spline.specs.Coefficients.{coefficient}
+use Rattle.spline.specs.Coefficients.{filter, run, u, down, back, v, scaled, coefficient}
 use Rattle.moves.specs.Move.{mixed, source, divisor, moved}
 use Rattle.moves.specs.Border.{bordered, moveIn}
 use Rattle.moves.specs.InPlace.{prepared}
@@ -28,6 +28,58 @@ use Rattle.explanations.specs.declared.Parts.{Parts}
 use Rattle.explanations.specs.Made.{placeOf, valueOf, termBy, partsBy, partsOf, noTerm}
 use Rattle.explanations.specs.Answer.{sourceOf, term, Shown}
 
+-- ---- the parts of three samples, worked out by the checker
+-- of sample k of a line, moved by d under a kernel
+abbrev partsAt : ℕ → ℤ → ℕ → List ℤ → Parts
+partsAt kernel d k s = partsOf (kernelOf kernel) (length s) d k (sourceOf (length s) kernel s)
+
+-- document 01's line 0 0 16 0, moved by half a sample under Keys, has -1 at place 3: from the places 2, 3, 0 and 1, taken modulo 4
+keys-overshoot :
+    partsAt 1 (negsuc 2047) 3 (pos 0 ∷ pos 0 ∷ pos 16 ∷ pos 0 ∷ [])
+    ≡ record {
+      terms =
+          termBy 2 (negsuc 8589934591) (pos 16)
+          ∷ termBy 3 (pos 77309411328) (pos 0)
+          ∷ termBy 0 (pos 77309411328) (pos 0)
+          ∷ termBy 1 (negsuc 8589934591) (pos 0)
+          ∷ [];
+      sum = negsuc 137438953471;
+      divisor = pos 137438953472;
+      quotient = negsuc 0;
+    }
+unfolding partsBy placeOf source remainder floor round fraction whole tab weigh Σ
+keys-overshoot = refl
+
+-- 0 -1 by half a sample under linear: -1/2 becomes 0, a half upward
+linear-half :
+    partsAt 0 (pos 2048) 0 (pos 0 ∷ negsuc 0 ∷ [])
+    ≡ record {
+      terms = termBy 0 (pos 0) (pos 0) ∷ termBy 1 (pos 34359738368) (negsuc 0) ∷ termBy 0 (pos 34359738368) (pos 0) ∷ termBy 1 (pos 0) (negsuc 0) ∷ [];
+      sum = negsuc 34359738367;
+      divisor = pos 68719476736;
+      quotient = pos 0;
+    }
+unfolding partsBy placeOf source remainder floor round fraction whole tab weigh Σ
+linear-half = refl
+
+-- 0 6 by half a sample under the spline: coefficients, which carry a factor of 16, over 16·6·D³
+spline-coefficients :
+    partsAt 2 (pos 2048) 0 (pos 0 ∷ pos 6 ∷ [])
+    ≡ record {
+      terms =
+          termBy 0 (pos 8589934592) (negsuc 95)
+          ∷ termBy 1 (pos 197568495616) (pos 193)
+          ∷ termBy 0 (pos 197568495616) (negsuc 95)
+          ∷ termBy 1 (pos 8589934592) (pos 193)
+          ∷ [];
+      sum = pos 19997367730176;
+      divisor = pos 6597069766656;
+      quotient = pos 3;
+    }
+unfolding partsBy placeOf source coefficient scaled v back down filter u run wrap remainder floor round fraction whole tab weigh Σ
+spline-coefficients = refl
+
+-- ---- the places
 pub whole-size : (d : ℤ) → natAbs (whole d) ≤ natAbs d
 unfolding whole floor
 whole-size d = omega (arith, shr-size (negℤ d) 4096, natAbs-negℤ d)

@@ -5,6 +5,7 @@ use mathlib.Core.Bool.{Bool, false, _||_, cond}
 use mathlib.Core.List.{List, _++_}
 use Prim.Native.Nat.{ℕ, _+_, _*_, _-_, _≤_, _<_, min}
 use native.Mathlib.Omega.{arith}
+use borrow.Author.Tests.{le-ltb, ne-eqb}
 use lib.Dec.{ltb}
 use lib.IntN.{ℤ, pos, natAbs}
 use lib.ListN.{length, getD, take, drop, replicate, List·getD-append}
@@ -20,9 +21,9 @@ use Rattle.lists.proofs.Ends.{extremes-first}
 use Rattle.lists.proofs.Grid.{put-front, put-cong}
 use Rattle.refusals.specs.declared.Verdict.the-variants as verdict
 use Rattle.refusals.specs.Tests.{badSide, short, badKernel, beyondOf, firstBad}
-use Rattle.refusals.specs.Judging.{whenAccepted}
+use Rattle.refusals.specs.Judging.{refusedIf, whenAccepted}
 use Rattle.refusals.specs.Judging as judging
-use Rattle.refusals.proofs.Tests.{or-false, side-good, short-good, kernel-good, beyond-good}
+use Rattle.refusals.proofs.Tests.{or-false, side-good, short-good, kernel-good, beyond-good, good-beyond}
 use Rattle.refusals.proofs.First.{nothing-bad}
 use Rattle.refusals.proofs.Judging.{refusedIf-accepted, ofFound-accepted, AcceptedByZero, by-zero-if, by-zero-found}
 use Rattle.settings.specs.declared.Border.{Border}
@@ -68,6 +69,21 @@ module _ (n kernel : ℕ) (d : ℤ) (own : ℕ) (applies : Bool) (line : List �
           samples = λ k l. six k (omega arith);
         },
       )
+
+  -- and one that has passed all the others is judged by its own number alone
+  pub only-own : Passed n kernel d line held work → judgedBy n kernel d own applies line held work ≡ refusedIf applies own verdict.Accepted
+  unfolding judgedBy tooShort badSide short badKernel
+  only-own p =
+      rw (
+        ne-eqb n 0 (λ e. omega (arith, p .some)),
+        le-ltb 1024 n (p .few),
+        le-ltb held n (p .held-room),
+        le-ltb work (6 * n) (p .work-room),
+        good-beyond d (p .near),
+        le-ltb 2 kernel (p .known),
+        nothing-bad range n 1 line .1 (λ i l. p .samples i (omega arith)),
+      )
+      refl
 
   pub by-zero : (own ≡ 0 → ⊥) → AcceptedByZero (judgedBy n kernel d own applies line held work)
   unfolding judgedBy
