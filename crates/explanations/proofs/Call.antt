@@ -12,12 +12,13 @@ use Rattle.lists.specs.Line.{line}
 use Rattle.refusals.specs.declared.Verdict.{Verdict}
 use Rattle.refusals.specs.declared.Verdict.the-variants.{Accepted, Refused}
 use Rattle.refusals.specs.Tests.{badSide, short, badKernel, beyondOf, firstFrom, firstBad}
+use Rattle.refusals.proofs.Judging.{AcceptedByZero}
 use Rattle.settings.specs.declared.Border.the-variants.{Wrapped}
 use Rattle.kernels.specs.Kernel.{kernelOf}
 use Rattle.moves.specs.Move.{source}
 use Rattle.moves.specs.Border.{moveIn}
 use Rattle.lines.specs.Answer.{tooShort, judgedBy}
-use Rattle.lines.proofs.Answer.{passed}
+use Rattle.lines.proofs.Answer.{passed, by-zero}
 use Rattle.explanations.specs.declared.Parts.{Parts}
 use Rattle.explanations.specs.Made.{partsOf, noParts}
 use Rattle.explanations.specs.Answer.{judged, Explainable, sourceOf, explanationOf, Shown, Explained}
@@ -94,6 +95,11 @@ refused-parts = refl
 pub accepted : (n kernel : ℕ) (d : ℤ) (k : ℕ) (s : List ℤ) (work : ℕ) → judged n kernel d k s work ≡ Accepted → Explainable n kernel d k s work
 unfolding judged
 accepted n kernel d k s work e = let (place, p) = passed n kernel d 7 (leb n k) s (length s) work e in record { passed = p; inside = leb-false n k place }
+
+-- number 0 says that the call is accepted
+pub zero-accepted : (n kernel : ℕ) (d : ℤ) (k : ℕ) (s : List ℤ) (work : ℕ) → AcceptedByZero (judged n kernel d k s work)
+unfolding judged
+zero-accepted n kernel d k s work = by-zero n kernel d 7 (leb n k) s (length s) work (λ e. omega arith)
 
 -- the part of the work that is lent suffices
 pub room-lent : {n kernel : ℕ} {d : ℤ} {k : ℕ} {s : List ℤ} {work : ℕ} → Explainable n kernel d k s work → Explainable n kernel d k s (6 * n)

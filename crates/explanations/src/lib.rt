@@ -15,7 +15,9 @@ ghost use Rattle.explanations.specs.Answer.{Explainable, sourceOf, Expla
 use kernels::FourWeights;
 use refusals::Verdict;
 
-// One term of the weighted sum: a place of the line, its weight, the sample or coefficient that stands there, and their product.
+// One term of the weighted sum: a place of the line, its weight, the sample or coefficient that stands there, and their product. C and Rust are handed
+// it as it is, so it has C's layout.
+#[repr(C)]
 pub struct Term {
     pub place: usize,
     pub weight: i64,
@@ -65,7 +67,10 @@ fn place_of(n: usize, d: i32, k: usize, i: usize) -> usize
     requires { ⌜ (1 ≤ n) × (n ≤ 1024) × (natAbs d ≤ 4194304) × (k < n) × (i < 4) ⌝ }
     ensures { λ r. ⌜ (r ≡ placeOf n d k i) × (r < n) ⌝ }
 {
-    arith::wrapped(k as i64 + arith::whole_part(arith::wide(d)) - 1 + i as i64, n)
+    arith::wrapped(
+        k as i64 + arith::whole_part(arith::wide(d)) - 1 + i as i64,
+        n,
+    )
 }
 
 // Term i of output k, of a line as its kernel weighs it.
@@ -115,14 +120,7 @@ fn parts_in(kernel: u32, d: i32, k: usize, line: &[i32], row: &mut [i32]) -> Par
 }
 
 // The same by way of the work, which is cleared.
-fn parts_cleared(
-    n: usize,
-    kernel: u32,
-    d: i32,
-    k: usize,
-    line: &[i32],
-    work: &mut [i32],
-) -> Parts
+fn parts_cleared(n: usize, kernel: u32, d: i32, k: usize, line: &[i32], work: &mut [i32]) -> Parts
     requires { ⌜ Explainable n kernel d k (now line) (length (now work)) ⌝ }
     ensures { λ r. ⌜ r ≡ partsOf (kernelOf kernel) n d k (sourceOf n kernel (now (line .entry))) ⌝ }
     ensures { λ _. ⌜ now (work .exit) ≡ replicate (6 * n) (pos 0) ++ drop (6 * n) (now (work .entry)) ⌝ }

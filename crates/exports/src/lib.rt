@@ -6,6 +6,7 @@ ghost use Rattle.tickets.specs.Ticket.{Asking, Committed};
 ghost use Rattle.forecasts.specs.Figures.{forecastOf};
 ghost use Rattle.lines.specs.Answer.{LineMoved};
 ghost use Rattle.lines.specs.Answer as line;
+ghost use Rattle.explanations.specs.Answer.{Explained};
 ghost use Rattle.acceptance.specs.Judge.{workPlaces};
 ghost use Rattle.settings.specs.Setting.{withKernel, withCentre, withShears, withBorder};
 ghost use Rattle.steps.specs.Step.{SineAnswer, changeOf};
@@ -14,9 +15,10 @@ ghost use Rattle.graticule.specs.Checked.{LevelChecked};
 ghost use Rattle.readings.specs.Sample.{greyOf};
 ghost use Rattle.readings.specs.Answers.{Out, FloatsOut, ReadingAt, SummaryOf};
 ghost use Rattle.format.specs.Answered.{LineAnswered};
-ghost use Rattle.flat.specs.Exported.{Exported, borderOf, settingOf, laidAs, ofChange, ofVerdict, ofOutcome, ofLine, ofSine, ofLevelled, ofReading, ofSummary, ofWritten, ticketOf, ofAsked, ofForecast, ofChecked};
+ghost use Rattle.flat.specs.Exported.{Exported, borderOf, settingOf, laidAs, ofChange, ofVerdict, ofOutcome, ofLine, ofSine, ofLevelled, ofReading, ofSummary, ofWritten, ticketOf, ofAsked, ofForecast, ofExplanation, ofChecked};
 use flat::Answer;
 use flat::CheckedStep;
+use flat::ExplanationAnswer;
 use flat::FlatAsked;
 use flat::FlatChange;
 use flat::FlatSetting;
@@ -148,6 +150,21 @@ pub extern "C" fn straightener_line_work_places(n: usize) -> usize
     ensures { λ r. ⌜ r ≡ line.workPlaces n ⌝ }
 {
     lines::work_places(n)
+}
+
+// What made sample k of a moved line.
+#[no_mangle]
+pub extern "C" fn straightener_explain(
+    n: usize,
+    kernel: u32,
+    d: i32,
+    k: usize,
+    line: &[i32],
+    work: &mut [i32],
+) -> ExplanationAnswer
+    ensures { λ r. ⌜ Exported ofExplanation (Explained n kernel d k (now (line .entry)) (now (work .entry)) (now (work .exit))) r ⌝ }
+{
+    flat::of_explanation(explanations::explain(n, kernel, d, k, line, work))
 }
 
 // The setting with another kernel.

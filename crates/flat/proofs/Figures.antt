@@ -5,6 +5,8 @@ use mathlib.Core.Bool.{true, false}
 use mathlib.Core.List.{[], _∷_, map}
 use lib.IntN.{ℤ, pos}
 use lib.Ieee.{Float}
+use lib.ListN.{replicate}
+use Rattle.lists.specs.Tab.{tab}
 use Rattle.lists.specs.declared.Extremes.{Extremes}
 use Rattle.refusals.specs.declared.Verdict.the-variants as verdict
 use Rattle.pictures.specs.declared.Outcome.the-variants as picture
@@ -14,10 +16,12 @@ use Rattle.levelling.specs.declared.Levelled.the-variants as level
 use Rattle.format.specs.declared.Written.the-variants as written
 use Rattle.tickets.specs.declared.Ticket.{Ticket}
 use Rattle.forecasts.specs.declared.Figures.{Figures}
+use Rattle.explanations.specs.declared.Parts.{Parts}
+use Rattle.explanations.specs.Made.{noTerm, noParts}
 use Rattle.readings.specs.declared.Reading.{Reading}
 use Rattle.readings.specs.declared.Reading.the-variants.{Level, Under, Over}
 use Rattle.flat.specs.declared.FlatSetting.{FlatSetting}
-use Rattle.flat.specs.Exported.{ofVerdict, ofAsked, ofForecast, ofOutcome, ofLine, ofSine, ofLevelled, ofChecked, kindOf, greysOf, ofReading, ofSummary, ofWritten}
+use Rattle.flat.specs.Exported.{ofVerdict, ofAsked, ofForecast, ofExplanation, ofOutcome, ofLine, ofSine, ofLevelled, ofChecked, kindOf, greysOf, ofReading, ofSummary, ofWritten}
 
 -- ---- refused under a number, with a row and a column: these three, and every other figure 0
 module _ (n y x : ℕ) where
@@ -41,6 +45,13 @@ module _ (n y x : ℕ) where
 
   pub refused-line : ofLine (line.Refused n y x) ≡ record { number = n; row = y; column = x; count = 0; smallest = pos 0; largest = pos 0 }
   refused-line = refl
+
+  -- with four terms of 0
+  pub refused-explanation :
+      ofExplanation (record { verdict = verdict.Refused n y x; parts = noParts })
+      ≡ record { number = n; row = y; column = x; terms = replicate 4 noTerm; sum = pos 0; divisor = pos 0; quotient = pos 0 }
+  unfolding noParts tab
+  refused-explanation = refl
 
   -- with the step that it tells
   pub refused-checked : (t : ℤ) → ofChecked (record { verdict = verdict.Refused n y x; step = t }) ≡ record { number = n; row = y; column = x; step = t }
@@ -78,6 +89,11 @@ pub accepted-forecast : (f : Figures)
     → ofForecast (record { verdict = verdict.Accepted; figures = f })
     ≡ record { number = 0; row = 0; column = 0; work = f .work; count = f .count; bound = f .bound }
 accepted-forecast f = refl
+
+pub accepted-explanation : (p : Parts)
+    → ofExplanation (record { verdict = verdict.Accepted; parts = p })
+    ≡ record { number = 0; row = 0; column = 0; terms = p .terms; sum = p .sum; divisor = p .divisor; quotient = p .quotient }
+accepted-explanation p = refl
 
 -- with the extremes of what was written
 pub accepted-picture : (lines : ℕ) (extremes : Extremes)

@@ -10,6 +10,7 @@ use Rattle.pictures.specs.declared.Outcome.{Outcome}
 use Rattle.pictures.specs.Answer as straightened
 use Rattle.lines.specs.declared.LineOutcome.{LineOutcome}
 use Rattle.lines.specs.Answer as moved
+use Rattle.explanations.specs.declared.Explanation.{Explanation}
 use Rattle.steps.specs.declared.StepSine.{StepSine}
 use Rattle.levelling.specs.declared.Levelled.{Levelled}
 use Rattle.steps.specs.Step.{sineNumber, sineValue}
@@ -33,6 +34,7 @@ use Rattle.flat.specs.declared.FlatChange.{FlatChange}
 use Rattle.flat.specs.declared.FlatTicket.{FlatTicket}
 use Rattle.flat.specs.declared.FlatAsked.{FlatAsked}
 use Rattle.flat.specs.declared.ForecastAnswer.{ForecastAnswer}
+use Rattle.flat.specs.declared.ExplanationAnswer.{ExplanationAnswer}
 use Rattle.flat.specs.declared.Answer.{Answer}
 use Rattle.flat.specs.declared.Step.{Step}
 use Rattle.flat.specs.declared.CheckedStep.{CheckedStep}
@@ -80,6 +82,20 @@ ofForecast f =
       work = f .figures .work;
       count = f .figures .count;
       bound = f .figures .bound;
+    }
+
+-- what an explanation answers
+abbrev pub ofExplanation : Explanation → ExplanationAnswer
+ofExplanation e =
+    let v = e .verdict in
+    record {
+      number = verdict.numberOf v;
+      row = verdict.rowOf v;
+      column = verdict.columnOf v;
+      terms = e .parts .terms;
+      sum = e .parts .sum;
+      divisor = e .parts .divisor;
+      quotient = e .parts .quotient;
     }
 
 -- a verdict alone interpolates no line and moves no sample

@@ -2,7 +2,9 @@
 // out flat. include/straightener.h says what each field means.
 ghost use mathlib.Core.Path.{_≡_};
 ghost use lib.IntN.{pos};
-ghost use Rattle.flat.specs.Exported.{borderOf, settingOf, laidAs, ofChange, ofVerdict, ofOutcome, ofLine, ofSine, ofLevelled, kindOf, greysOf, ofReading, ofSummary, ofWritten, ticketOf, ofAsked, ofForecast, ofChecked};
+ghost use Rattle.flat.specs.Exported.{borderOf, settingOf, laidAs, ofChange, ofVerdict, ofOutcome, ofLine, ofSine, ofLevelled, kindOf, greysOf, ofReading, ofSummary, ofWritten, ticketOf, ofAsked, ofForecast, ofExplanation, ofChecked};
+use explanations::Explanation;
+use explanations::Term;
 use forecasts::Foretold;
 use format::Written;
 use graticule::Checked;
@@ -78,6 +80,19 @@ pub struct ForecastAnswer {
     pub work: usize,
     pub count: u32,
     pub bound: i32,
+}
+
+// What an explanation answers: 0 or the refusal number, the row and the column under 6, the four terms, their sum, the divisor and the quotient, all 0
+// where it was refused.
+#[repr(C)]
+pub struct ExplanationAnswer {
+    pub number: u32,
+    pub row: usize,
+    pub column: usize,
+    pub terms: [Term; 4],
+    pub sum: i64,
+    pub divisor: i64,
+    pub quotient: i32,
 }
 
 // 0 and a step or a shear, or the refusal number and 0.
@@ -285,6 +300,24 @@ pub fn of_forecast(told: Foretold) -> ForecastAnswer
         work: figures.work,
         count: figures.count,
         bound: figures.bound,
+    }
+}
+
+pub fn of_explanation(explanation: Explanation) -> ExplanationAnswer
+    ensures { λ r. ⌜ r ≡ ofExplanation explanation ⌝ }
+{
+    let verdict = explanation.verdict;
+    let judged = of_verdict(verdict);
+    let parts = explanation.parts;
+    let terms = parts.terms;
+    ExplanationAnswer {
+        number: judged.number,
+        row: judged.row,
+        column: judged.column,
+        terms,
+        sum: parts.sum,
+        divisor: parts.divisor,
+        quotient: parts.quotient,
     }
 }
 
