@@ -11,7 +11,8 @@
  *     cc program.c $(pkg-config --cflags --libs straightener)
  *
  * Straightening     straightener_straighten, straightener_ask, straightener_commit, straightener_forecast,
- *                   straightener_work_places, straightener_move_line, straightener_line_work_places
+ *                   straightener_work_places, straightener_move_line, straightener_explain,
+ *                   straightener_line_work_places
  * Settings, steps   straightener_with_kernel, straightener_with_centre, straightener_with_shears,
  *                   straightener_with_border, straightener_with_step, straightener_sine,
  *                   straightener_level, straightener_level_checked
@@ -43,9 +44,9 @@
 #include <stdint.h>
 
 /* The version of this header, as text and as its parts. */
-#define STRAIGHTENER_VERSION "0.7.0"
+#define STRAIGHTENER_VERSION "0.8.0"
 #define STRAIGHTENER_VERSION_MAJOR 0
-#define STRAIGHTENER_VERSION_MINOR 7
+#define STRAIGHTENER_VERSION_MINOR 8
 #define STRAIGHTENER_VERSION_PATCH 0
 
 #ifdef __cplusplus
@@ -96,7 +97,8 @@ static inline const char *straightener_words(uint32_t number)
                "units to either side of 0 for straightening, 294,912 for a single line, and 1,048,576 for readings and "
                "for levelling with a picture";
     case STRAIGHTENER_REFUSED_POINT:
-        return "a point lies outside the picture; for levelling without a picture, coordinates must be from 0 to 1,023";
+        return "a point lies outside the picture, or a place beyond its line; for levelling without a picture, "
+               "coordinates must be from 0 to 1,023";
     case STRAIGHTENER_REFUSED_SLOPE:
         return "the second point must lie to the right of the first, and no steeper than 45 degrees from it";
     case STRAIGHTENER_REFUSED_LINE:
@@ -208,6 +210,40 @@ typedef struct {
     uint32_t count;
     int32_t bound;
 } straightener_forecast_answer;
+
+/*
+ * One term of the weighted sum that makes a sample.
+ *   place    the source place in the line, counted from 0
+ *   weight   its weight
+ *   value    with kernels 0 and 1 the sample that stands there, in units of 1/128 grey; with kernel 2 the
+ *            spline's coefficient, which is 16 times as large
+ *   product  weight times value
+ */
+typedef struct {
+    size_t place;
+    int64_t weight;
+    int32_t value;
+    int64_t product;
+} straightener_term;
+
+/*
+ * What made one sample of a moved line; every figure is 0 where refused.
+ *   number, row, column  as in straightener_answer
+ *   terms                the four source places in their order, from the one before the sample's own on
+ *   sum                  the sum of the four products
+ *   divisor              what the sum is divided by
+ *   quotient             the sum over the divisor, to the nearest whole number, halves upward: the sample, in
+ *                        units of 1/128 grey
+ */
+typedef struct {
+    uint32_t number;
+    size_t row;
+    size_t column;
+    straightener_term terms[4];
+    int64_t sum;
+    int64_t divisor;
+    int32_t quotient;
+} straightener_explanation_answer;
 
 /* A changed setting under number 0, or the setting as it was under number 4. */
 typedef struct {
@@ -381,8 +417,28 @@ straightener_answer straightener_move_line(size_t n, uint32_t kernel, int32_t d,
                                            int32_t *work, size_t work_len);
 
 /*
- * The places of work that straightener_move_line takes: 6 for each of the n samples, or 0 for an n that it
- * refuses. Nothing is refused.
+ * Shows what made one sample of a moved line, wrapped: the four places that it comes from with their weights and
+ * what stands there, the weighted sum, the divisor and the rounded quotient. The quotient is the sample that
+ * straightener_move_line writes at place k for the same n, kernel, d and line where the border is wrapped, and
+ * every place of a line that it moves has its explanation.
+ *   n       samples of the line, 1 to 1,024
+ *   kernel  0, 1 or 2
+ *   d       the move in 4,096ths of a sample, toward higher places if positive; within +-4,194,304
+ *   k       the place in the moved line, below n
+ *   line    at least n places; samples within +-294,912
+ *   work    at least straightener_line_work_places(n) places; so many are 0 afterwards
+ * Refuses under 1, 2, 4, 5, 7, 6 (with row 0), where 7 is a k that is not below n.
+ * With f for -d modulo 4,096 and q for (-d - f)/4,096 the places are k + q - 1, k + q, k + q + 1 and k + q + 2,
+ * each modulo n, so that one can come up more than once. The weights are the kernel's at f; they sum to 4096^3
+ * times 1, 2 or 6 with kernel 0, 1 or 2. The divisor is that sum, and with kernel 2 sixteen times it.
+ */
+straightener_explanation_answer straightener_explain(size_t n, uint32_t kernel, int32_t d, size_t k,
+                                                     const int32_t *line, size_t line_len,
+                                                     int32_t *work, size_t work_len);
+
+/*
+ * The places of work that straightener_move_line and straightener_explain take: 6 for each of the n samples, or 0
+ * for an n that they refuse. Nothing is refused.
  */
 size_t straightener_line_work_places(size_t n);
 

@@ -2,7 +2,7 @@
 
 use super::numbers::Numbers;
 use super::{Answer, Extremes, Implementation};
-use reference::second::{Border, Setting, Ticket};
+use reference::second::{Border, Parts, Setting, Ticket};
 use std::hint::black_box;
 
 /// Backgrounds that are refused under number 12.
@@ -215,5 +215,51 @@ impl LineCall {
             _ if self.line.is_empty() => self.line.push(0),
             _ => self.line[place] = numbers.one_of(&[294_913, -294_913, i32::MAX, i32::MIN]),
         }
+    }
+}
+
+/// A place of a wrapped line that is to be explained.
+#[derive(Clone, Debug)]
+pub struct ExplainCall {
+    pub n: usize,
+    pub kernel: u32,
+    pub d: i32,
+    pub k: usize,
+    pub line: Vec<i32>,
+    pub work_length: usize,
+}
+
+impl ExplainCall {
+    /// A call on place k of a line, with as much work as it takes.
+    pub fn fitting(kernel: u32, d: i32, k: usize, line: Vec<i32>) -> ExplainCall {
+        ExplainCall { n: line.len(), kernel, d, k, work_length: 6 * line.len(), line }
+    }
+
+    /// Makes the call; its work is to be 0 where it takes any, and else untouched, and refused every part is 0.
+    pub fn run(&self, implementation: &dyn Implementation) -> (Answer, Parts) {
+        let mut work = buffer(self.work_length);
+        let (answer, parts) = implementation.explain(self, &mut work);
+        let cleared = if answer.number == 0 { 6 * self.n } else { 0 };
+        assert!(work[..cleared].iter().all(|&v| v == 0), "work was not left at 0");
+        assert!(untouched_from(cleared, &work), "a place of work was written that the call does not take");
+        assert!(answer.number == 0 || parts == Parts::default(), "a refused call told of parts");
+        (answer, parts)
+    }
+
+    /// The same line moved, wrapped, into a result of its length; one of a length that is refused needs no more places.
+    pub fn moved(&self) -> LineCall {
+        let &ExplainCall { n, kernel, d, work_length, ref line, .. } = self;
+        let (border, result_length) = (Border::Wrapped, n.min(1_024));
+        LineCall { n, kernel, d, border, line: line.clone(), result_length, work_length }
+    }
+
+    /// A call on a short line in which anything may be wrong; what can be wrong with a moved line is made wrong there.
+    pub fn hostile(numbers: &mut Numbers) -> ExplainCall {
+        let LineCall { n, kernel, d, line, work_length, .. } = LineCall::hostile(numbers);
+        let k = match numbers.below(8) {
+            0 => numbers.one_of(&[n, n.wrapping_add(1), line.len(), usize::MAX, usize::MAX - 3]),
+            _ => numbers.below(n.clamp(1, 1_024)),
+        };
+        ExplainCall { n, kernel, d, k, line, work_length }
     }
 }

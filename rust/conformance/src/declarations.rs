@@ -8,6 +8,7 @@ fn in_c(type_name: &str) -> String {
         "usize" => "size_t".to_string(),
         "u32" => "uint32_t".to_string(),
         "i32" => "int32_t".to_string(),
+        "i64" => "int64_t".to_string(),
         "u8" => "uint8_t".to_string(),
         "f32" => "float".to_string(),
         _ if type_name.starts_with("straightener_") => type_name.to_string(),
@@ -22,7 +23,8 @@ fn with_underlines(name: &str) -> String {
     format!("straightener{}", name.chars().map(letter).collect::<String>())
 }
 
-/// A parameter or a field as C declares it; a slice is a pointer and a length.
+/// A parameter or a field as C declares it; a slice is a pointer and a length, and an array has its length behind its
+/// name.
 fn declared(name: &str, type_name: &str) -> String {
     let slice = |part: &str| format!("{} *{name}, size_t {name}_len", in_c(part.trim_matches(['[', ']'])));
     if let Some(part) = type_name.strip_prefix("&mut ") {
@@ -33,6 +35,8 @@ fn declared(name: &str, type_name: &str) -> String {
         format!("{} *{name}", in_c(part))
     } else if let Some(part) = type_name.strip_prefix("*const ") {
         format!("const {} *{name}", in_c(part))
+    } else if let Some((part, times)) = type_name.trim_matches(['[', ']']).split_once("; ") {
+        format!("{} {name}[{times}]", in_c(part))
     } else {
         format!("{} {name}", in_c(type_name))
     }

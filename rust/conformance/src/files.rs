@@ -109,13 +109,17 @@ pub fn border(word: &str) -> Border {
     }
 }
 
-/// A list of samples with commas between them: `v*n` is v n times over, `-` the empty list, and
-/// `lcg:SEED:COUNT:LIMIT` a list made by a linear congruential generator.
+/// A list of samples: as [`few`] has it, or `lcg:SEED:COUNT:LIMIT`, a list made by a linear congruential generator.
 pub fn list(word: &str) -> Vec<i32> {
     if let Some(made) = word.strip_prefix("lcg:") {
         let parts: Vec<u64> = made.split(':').map(number).collect();
         return generated(parts[0], parts[1], parts[2]);
     }
+    few(word)
+}
+
+/// A list of numbers with commas between them: `v*n` is v n times over, `-` the empty list.
+pub fn few<T: std::str::FromStr + Clone>(word: &str) -> Vec<T> {
     let entries = word.split(',').filter(|entry| *entry != "-");
     entries
         .flat_map(|entry| {

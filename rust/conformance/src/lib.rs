@@ -13,10 +13,10 @@ pub mod numbers;
 mod second;
 pub mod tables;
 
-use calls::LineCall;
+use calls::{ExplainCall, LineCall};
 #[cfg(feature = "library")]
 pub use library::{raw_setting, Library};
-use reference::second::{Border, Forecast, Setting, Ticket};
+use reference::second::{Border, Forecast, Parts, Setting, Ticket};
 pub use second::Second;
 
 /// What the document says of an answer: number, row, column and count.
@@ -94,6 +94,8 @@ pub trait Implementation {
     /// The answer, whose count is 0, and the figures.
     fn forecast(&self, size: (usize, usize), setting: Setting, largest: u32) -> (Answer, Forecast);
     fn move_line(&self, call: &LineCall, result: &mut [i32], work: &mut [i32]) -> (Answer, Extremes);
+    /// The answer, whose count is 0, and the parts.
+    fn explain(&self, call: &ExplainCall, work: &mut [i32]) -> (Answer, Parts);
     fn work_places(&self, size: (usize, usize)) -> usize;
     fn line_work_places(&self, n: usize) -> usize;
     fn with_kernel(&self, setting: Setting, kernel: u32) -> Setting;

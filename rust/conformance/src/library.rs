@@ -1,8 +1,8 @@
 //! The proved library as one of the implementations.
 
-use crate::calls::LineCall;
+use crate::calls::{ExplainCall, LineCall};
 use crate::{Answer, Extremes, Implementation, LineUnderPoints};
-use reference::second::{Border, Forecast, Setting, Ticket};
+use reference::second::{Border, Forecast, Parts, Setting, Ticket};
 use straightener::raw;
 
 /// The proved library.
@@ -92,6 +92,18 @@ impl Implementation for Library {
         let &LineCall { n, kernel, d, ref line, .. } = call;
         let (border, background) = raw_border(call.border);
         moved(raw::move_line(n, kernel, d, border, background, line, result, work))
+    }
+
+    /// The products and their sum, which document 02 does not ask for, are held to the rest here.
+    fn explain(&self, call: &ExplainCall, work: &mut [i32]) -> (Answer, Parts) {
+        let &ExplainCall { n, kernel, d, k, ref line, .. } = call;
+        let raw::ExplanationAnswer { number, row, column, terms, sum, divisor, quotient } =
+            raw::explain(n, kernel, d, k, line, work);
+        assert!(terms.iter().all(|term| term.product == term.weight * i64::from(term.value)), "{call:?}");
+        assert_eq!(sum, terms.iter().map(|term| term.product).sum(), "{call:?}");
+        let (places, values) = (terms.map(|term| term.place), terms.map(|term| term.value));
+        let weights = terms.map(|term| term.weight);
+        (Answer::of(number, row, column, 0), Parts { places, weights, values, divisor, quotient })
     }
 
     fn work_places(&self, (width, height): (usize, usize)) -> usize {

@@ -1,8 +1,8 @@
 //! The second implementation as one of the implementations.
 
-use crate::calls::LineCall;
+use crate::calls::{ExplainCall, LineCall};
 use crate::{Answer, Extremes, Implementation, LineUnderPoints};
-use reference::second::{self, Border, Forecast, Refused, Setting, Ticket, Told};
+use reference::second::{self, Border, Forecast, Parts, Refused, Setting, Ticket, Told};
 
 /// The second implementation.
 pub struct Second;
@@ -73,6 +73,12 @@ impl Implementation for Second {
     fn move_line(&self, call: &LineCall, result: &mut [i32], work: &mut [i32]) -> (Answer, Extremes) {
         let &LineCall { n, kernel, d, border, ref line, .. } = call;
         moved(second::move_line(n, kernel, d, border, line, result, work))
+    }
+
+    fn explain(&self, call: &ExplainCall, work: &mut [i32]) -> (Answer, Parts) {
+        let &ExplainCall { n, kernel, d, k, ref line, .. } = call;
+        let outcome = second::explain(n, kernel, d, k, line, work);
+        (answer(outcome.map(|_| 0)), outcome.unwrap_or_default())
     }
 
     fn work_places(&self, (width, height): (usize, usize)) -> usize {

@@ -1,7 +1,7 @@
 //! The proved library against the second implementation, call by call.
 #![cfg(feature = "library")]
 
-use conformance::calls::{LineCall, Outcome, PictureCall, BAD_BACKGROUNDS};
+use conformance::calls::{ExplainCall, LineCall, Outcome, PictureCall, BAD_BACKGROUNDS};
 use conformance::numbers::Numbers;
 use conformance::{Implementation, Library, Second};
 use reference::second::{Border, Setting};
@@ -112,6 +112,19 @@ fn hostile_line_calls() {
     }
     assert!([0, 1, 2, 4, 5, 6, 12].iter().all(|&number| seen[number] > 300), "{seen:?}");
     assert_eq!(seen[3], 0, "a line has no centre");
+}
+
+#[test]
+fn hostile_explanations() {
+    let (mut numbers, mut seen) = (Numbers::seeded(29), [0; 13]);
+    for _ in 0..20_000 {
+        let call = ExplainCall::hostile(&mut numbers);
+        let told = call.run(&Library);
+        assert_eq!(told, call.run(&Second), "{call:?}");
+        seen[told.0.number as usize] += 1;
+    }
+    assert!([0, 1, 2, 4, 5, 6, 7].iter().all(|&number| seen[number] > 300), "{seen:?}");
+    assert_eq!([seen[3], seen[12]], [0, 0], "a wrapped line has no centre and no background");
 }
 
 #[test]

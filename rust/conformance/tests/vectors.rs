@@ -1,16 +1,18 @@
 //! Both implementations held to the vectors of an independent model.
 
-use conformance::calls::{untouched_from, LineCall, Outcome, PictureCall};
-use conformance::files::{border, cases, float_bits, fnv, list, number, numbers, value, vectors};
+use conformance::calls::{untouched_from, ExplainCall, LineCall, Outcome, PictureCall};
+use conformance::files::{border, cases, few, float_bits, fnv, list, number, numbers, value, vectors};
 use conformance::{for_both_implementations, Answer, Extremes, Implementation};
 use reference::exact::{self, Whole};
-use reference::second::{self, Forecast, Setting, Ticket};
+use reference::second::{self, Forecast, Parts, Setting, Ticket};
 
 for_both_implementations!(
     lines,
     lines_on_background,
     line_refusals,
     lines_in_both_borders,
+    explanations,
+    parts_of_samples,
     pictures,
     pictures_on_background,
     picture_refusals,
@@ -173,6 +175,56 @@ fn lines_in_both_borders(implementation: &dyn Implementation) {
     for (input, answer) in vectors("border_lines.txt", 259) {
         let call = named_line(&input);
         assert_recorded(&call.run(implementation), call.n, &answer);
+    }
+}
+
+/// Four numbers.
+fn four<T: std::str::FromStr + std::fmt::Debug>(numbers: Vec<T>) -> [T; 4] {
+    numbers.try_into().expect("four numbers")
+}
+
+fn explanations(implementation: &dyn Implementation) {
+    for (input, answer) in vectors("explain.txt", 250) {
+        let line: Vec<i32> = numbers(&input[4..]);
+        assert_eq!(line.len(), number::<usize>(&input[3]));
+        let call = ExplainCall::fitting(number(&input[0]), number(&input[1]), number(&input[2]), line);
+        assert_eq!(
+            [3, 8, 13, 18, 20].map(|at| &answer[at][..]),
+            ["places", "weights", "values", "divisor", "quotient"]
+        );
+        let parts = Parts {
+            places: four(numbers(&answer[4..8])),
+            weights: four(numbers(&answer[9..13])),
+            values: four(numbers(&answer[14..18])),
+            divisor: number(&answer[19]),
+            quotient: number(&answer[21]),
+        };
+        let expected = Answer::of(number(&answer[0]), number(&answer[1]), number(&answer[2]), 0);
+        assert_eq!(call.run(implementation), (expected, parts), "{input:?}");
+    }
+}
+
+fn parts_of_samples(implementation: &dyn Implementation) {
+    for (input, answer) in vectors("sample_parts.txt", 222) {
+        let call = ExplainCall {
+            n: number(value(&input, "N")),
+            kernel: number(value(&input, "kernel")),
+            d: number(value(&input, "d")),
+            k: number(value(&input, "k")),
+            line: list(value(&input, "line")),
+            work_length: number(value(&input, "work_len")),
+        };
+        let figure = |key: &str| number::<usize>(value(&answer, key));
+        let parts = Parts {
+            places: four(few(value(&answer, "places"))),
+            weights: four(few(value(&answer, "weights"))),
+            values: four(few(value(&answer, "values"))),
+            divisor: number(value(&answer, "divisor")),
+            quotient: number(value(&answer, "quotient")),
+        };
+        let expected = Answer::of(figure("number") as u32, figure("row"), figure("column"), 0);
+        assert_eq!(call.run(implementation), (expected, parts), "{input:?}");
+        assert_eq!(figure("work_zero"), if expected.number == 0 { 6 * call.n } else { 0 }, "{input:?}");
     }
 }
 

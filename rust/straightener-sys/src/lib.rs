@@ -146,6 +146,40 @@ pub struct straightener_forecast_answer {
     pub bound: i32,
 }
 
+/// One term of the weighted sum that makes a sample.
+#[repr(C)]
+#[derive(Clone, Copy, Debug, Default, PartialEq, Eq, Hash)]
+pub struct straightener_term {
+    /// The source place in the line.
+    pub place: usize,
+    /// Its weight.
+    pub weight: i64,
+    /// The sample that stands there, or the spline's coefficient.
+    pub value: i32,
+    /// Weight times value.
+    pub product: i64,
+}
+
+/// What made one sample of a moved line; every figure is 0 where refused.
+#[repr(C)]
+#[derive(Clone, Copy, Debug, PartialEq, Eq)]
+pub struct straightener_explanation_answer {
+    /// 0, or the refusal number.
+    pub number: u32,
+    /// As in [`straightener_answer`].
+    pub row: usize,
+    /// As in [`straightener_answer`].
+    pub column: usize,
+    /// The four terms in the order of their places.
+    pub terms: [straightener_term; 4],
+    /// The sum of the products.
+    pub sum: i64,
+    /// What the sum is divided by.
+    pub divisor: i64,
+    /// The sum over the divisor to the nearest whole number, halves upward: the sample.
+    pub quotient: i32,
+}
+
 /// A changed setting, or the setting as it was under number 4.
 #[repr(C)]
 #[derive(Clone, Copy, Debug, PartialEq, Eq)]
@@ -260,6 +294,13 @@ extern "C" {
         result: *mut i32, result_len: usize,
         work: *mut i32, work_len: usize,
     ) -> straightener_answer;
+
+    /// What made one sample of a moved line.
+    pub fn straightener_explain(
+        n: usize, kernel: u32, d: i32, k: usize,
+        line: *const i32, line_len: usize,
+        work: *mut i32, work_len: usize,
+    ) -> straightener_explanation_answer;
 
     /// The places of work that a picture takes; 0 for a size that is refused.
     pub fn straightener_work_places(width: usize, height: usize) -> usize;

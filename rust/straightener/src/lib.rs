@@ -30,11 +30,12 @@
 //!
 //! # Parts
 //!
-//! [`straighten`], [`ask`], [`commit`], [`forecast`], [`move_line`], every change of a [`Setting`], [`level`], [`level_checked`],
-//! [`sine`], the //! readings and [`answer_line`] call the proved library, which is x86-64 Linux code. [`raw`] is its C interface with
-//! slices. The package's own thin layer over the calls is tested and not proved.
+//! [`straighten`], [`ask`], [`commit`], [`forecast`], [`move_line`], [`explain`], every change of a [`Setting`], [`level`],
+//! [`level_checked`], [`sine`], the readings and [`answer_line`] call the proved library, which is x86-64 Linux code. [`raw`]
+//! is its C interface with slices. The package's own thin layer over the calls is tested and not proved.
 
 mod calls;
+mod explanation;
 mod forecast;
 pub mod raw;
 mod readings;
@@ -46,6 +47,7 @@ pub use calls::{
     answer_line, level, level_checked, line_work_places, move_line, sine, straighten, straightened,
     work_places, Moved, Straightened,
 };
+pub use explanation::{explain, Explanation, Term};
 pub use forecast::{forecast, Forecast};
 pub use readings::{floats_out, greys_out, reading, summary, Reading, Summary, BLACK, WHITE};
 pub use refusal::Refusal;

@@ -8,10 +8,11 @@ use straightener_sys as sys;
 
 pub use straightener_sys::{
     straightener_answer as Answer, straightener_asked as Asked, straightener_change as Change,
-    straightener_checked_step as CheckedStep, straightener_forecast_answer as ForecastAnswer,
-    straightener_line_answer as LineAnswer, straightener_reading_answer as ReadingAnswer,
-    straightener_setting as Setting, straightener_step as Step, straightener_summary_answer as SummaryAnswer,
-    straightener_ticket as Ticket, STRAIGHTENER_LONGEST_ANSWER as LONGEST_ANSWER,
+    straightener_checked_step as CheckedStep, straightener_explanation_answer as ExplanationAnswer,
+    straightener_forecast_answer as ForecastAnswer, straightener_line_answer as LineAnswer,
+    straightener_reading_answer as ReadingAnswer, straightener_setting as Setting, straightener_step as Step,
+    straightener_summary_answer as SummaryAnswer, straightener_term as Term, straightener_ticket as Ticket,
+    STRAIGHTENER_LONGEST_ANSWER as LONGEST_ANSWER,
 };
 
 // Each call below hands over slices whole: they are valid for their lengths and, being borrowed, do not
@@ -129,6 +130,14 @@ pub fn move_line(
             n, kernel, d, border, background, line, line_len, result, result_len, work, work_len,
         )
     }
+}
+
+/// What made one sample of a moved line.
+pub fn explain(n: usize, kernel: u32, d: i32, k: usize, line: &[i32], work: &mut [i32]) -> ExplanationAnswer {
+    let (line, line_len) = (line.as_ptr(), line.len());
+    let (work, work_len) = (work.as_mut_ptr(), work.len());
+    // SAFETY: borrowed slices, see above.
+    unsafe { sys::straightener_explain(n, kernel, d, k, line, line_len, work, work_len) }
 }
 
 /// The places of work that a picture takes; 0 for a size that is refused.

@@ -4,6 +4,7 @@
  */
 #include "straightener.h"
 
+#include <inttypes.h>
 #include <stdio.h>
 #include <stdlib.h>
 #include <string.h>
@@ -243,6 +244,58 @@ static void forecasts(void)
            (int)-told.bound, (int)told.bound);
 }
 
+/* Whether an explanation is a refusal that shows nothing but its number and a column. */
+static int shows_nothing(straightener_explanation_answer e, uint32_t number, size_t column)
+{
+    size_t i;
+    for (i = 0; i < 4; i++)
+        if (e.terms[i].place != 0 || e.terms[i].weight != 0 || e.terms[i].value != 0 || e.terms[i].product != 0)
+            return 0;
+    return e.number == number && e.row == 0 && e.column == column && e.sum == 0 && e.divisor == 0 && e.quotient == 0;
+}
+
+/* Every place of document 01's lines is explained by what the document writes there, and the parts add up. */
+static void explanations(void)
+{
+    const int64_t over[3] = {INT64_C(1) << 36, INT64_C(2) << 36, INT64_C(6) << 36};
+    const int32_t bad[4] = {0, 0, 294913, 0};
+    straightener_explanation_answer made = {0};
+    int32_t work[30];
+    size_t e, i, k;
+    for (e = 0; e < sizeof examples / sizeof examples[0]; e++)
+        for (k = 0; k < examples[e].n; k++) {
+            const struct line_example *x = &examples[e];
+            int64_t sum = 0, weights = 0;
+            fill(work, 30);
+            made = straightener_explain(x->n, x->kernel, x->d, k, x->line, x->n, work, 30);
+            expect(made.number == STRAIGHTENER_ACCEPTED && made.row == 0 && made.column == 0);
+            expect(made.quotient == x->moved[k]);
+            for (i = 0; i < 4; i++) {
+                straightener_term t = made.terms[i];
+                sum += t.product;
+                weights += t.weight;
+                expect(t.place == (made.terms[0].place + i) % x->n && t.product == t.weight * t.value);
+                expect(x->kernel == STRAIGHTENER_SPLINE || t.value == x->line[t.place]);
+            }
+            expect(sum == made.sum && weights == over[x->kernel]);
+            expect(made.divisor == (x->kernel == STRAIGHTENER_SPLINE ? 16 : 1) * over[x->kernel]);
+            expect(all(work, 0, 6 * x->n, 0) && all(work, 6 * x->n, 30, UNTOUCHED));
+        }
+    fill(work, 30);
+    expect(shows_nothing(straightener_explain(4, 0, 0, 3, bad, 4, work, 30), STRAIGHTENER_REFUSED_SAMPLE, 2));
+    expect(shows_nothing(straightener_explain(4, 0, 0, 4, bad, 4, work, 30), STRAIGHTENER_REFUSED_POINT, 0));
+    expect(shows_nothing(straightener_explain(4, 0, 0, SIZE_MAX, bad, 4, work, 30), 7, 0));
+    expect(shows_nothing(straightener_explain(2, 0, 0, 2, bad, 4, work, 30), 7, 0));
+    expect(shows_nothing(straightener_explain(4, 3, 0, 4, bad, 4, work, 30), STRAIGHTENER_REFUSED_KERNEL, 0));
+    expect(shows_nothing(straightener_explain(4, 3, INT32_MIN, 4, bad, 4, work, 30), STRAIGHTENER_REFUSED_SHEAR, 0));
+    expect(shows_nothing(straightener_explain(4, 3, INT32_MIN, 4, bad, 4, work, 23), STRAIGHTENER_REFUSED_BUFFER, 0));
+    expect(shows_nothing(straightener_explain(4, 3, INT32_MIN, 4, bad, 3, work, 30), 2, 0));
+    expect(shows_nothing(straightener_explain(SIZE_MAX, 3, 0, 0, NULL, 0, NULL, 0), STRAIGHTENER_REFUSED_SIZE, 0));
+    expect(all(work, 0, 30, UNTOUCHED));
+    made = straightener_explain(4, STRAIGHTENER_KEYS, -2048, 3, examples[6].line, 4, work, 30);
+    printf("what made a sample: %" PRId64 " / %" PRId64 " = %d\n", made.sum, made.divisor, (int)made.quotient);
+}
+
 struct background_example {
     uint32_t kernel;
     int32_t d;
@@ -459,6 +512,7 @@ int main(void)
     added();
     tickets();
     forecasts();
+    explanations();
     on_background();
     refusals();
     settings();

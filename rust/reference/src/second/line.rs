@@ -7,13 +7,13 @@ use super::{judge_samples, judge_size, refuse_if, Refused, Told};
 pub const D: i64 = 4_096;
 
 /// The largest move of a line, in 4,096ths of a sample.
-const LARGEST_MOVE: i32 = 4_194_304;
+pub(super) const LARGEST_MOVE: i32 = 4_194_304;
 
 /// The largest sample of a line, in units of 1/128 grey.
-const LARGEST_LINE_SAMPLE: i32 = 294_912;
+pub(super) const LARGEST_LINE_SAMPLE: i32 = 294_912;
 
 /// The number of the cubic spline kernel.
-const SPLINE: u32 = 2;
+pub(super) const SPLINE: u32 = 2;
 
 /// For each kernel a row (a, b, c, e) for each of the places k+q-1, k+q, k+q+1, k+q+2.
 const ROWS: [[[i64; 4]; 4]; 3] = [
@@ -23,7 +23,7 @@ const ROWS: [[[i64; 4]; 4]; 3] = [
 ];
 
 /// Each kernel's n: its weights stand over n times D cubed.
-const OVER: [i64; 3] = [1, 2, 6];
+pub(super) const OVER: [i64; 3] = [1, 2, 6];
 
 /// The whole number nearest (2 - sqrt 3) times 2 to the 30th.
 const P: i64 = 287_708_255;

@@ -5,6 +5,7 @@
 //! a remainder for every source place and a division for every sample.
 
 mod border;
+mod explanation;
 mod forecast;
 mod hexlines;
 mod line;
@@ -14,6 +15,7 @@ mod steps;
 mod tickets;
 
 pub use border::{interpolated, Border};
+pub use explanation::{explain, Parts};
 pub use forecast::{forecast, Forecast};
 pub use hexlines::{answer_input, answer_line};
 pub use line::{coefficients, fraction, line_work_places, move_line, rounded, weights};
