@@ -216,7 +216,7 @@ typedef struct {
  *   place    the source place in the line, counted from 0
  *   weight   its weight
  *   value    with kernels 0 and 1 the sample that stands there, in units of 1/128 grey; with kernel 2 the
- *            spline's coefficient, which is 16 times as large
+ *            spline's coefficient, in sixteenths of such a unit
  *   product  weight times value
  */
 typedef struct {

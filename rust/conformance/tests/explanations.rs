@@ -1,10 +1,10 @@
 //! What made a sample: the parts that are shown, that they make the sample which the move writes, and which
 //! number comes first.
 
-use conformance::calls::ExplainCall;
+use conformance::calls::{ExplainCall, LineCall};
 use conformance::numbers::Numbers;
 use conformance::{for_both_implementations, Answer, Implementation};
-use reference::second::{self, Parts};
+use reference::second::{self, Border, Parts};
 
 for_both_implementations!(
     every_place_of_a_moved_line,
@@ -14,6 +14,7 @@ for_both_implementations!(
     a_line_of_one_sample,
     samples_at_the_ends_of_their_range,
     explained_where_it_is_moved,
+    a_line_on_background_as_the_middle_of_a_longer_one,
     places_at_their_edges,
     the_number_that_comes_first,
     buffers_one_place_too_short_and_longer,
@@ -145,6 +146,23 @@ fn explained_where_it_is_moved(implementation: &dyn Implementation) {
         beyond += usize::from(answer.number == 7);
     }
     assert!(beyond > 100, "{beyond} places beyond the line");
+}
+
+/// What README says of lines on background, up to the longest that has room for it.
+fn a_line_on_background_as_the_middle_of_a_longer_one(implementation: &dyn Implementation) {
+    let mut numbers = Numbers::seeded(114);
+    for turn in 0..600 {
+        let n = if turn < 3 { 341 } else { 1 + numbers.below(9) };
+        let (line, d, b) =
+            (numbers.samples(n, 294_912), numbers.edgy(4_096 * n as i32 - 1), numbers.edgy(32_767));
+        let call = LineCall::fitting(turn % 3, d, line.clone()).with_border(Border::Background(b));
+        let (moved, side) = (call.run(implementation).result, vec![b; n]);
+        let longer = [&side[..], &line, &side].concat();
+        for k in [0, n / 2, n - 1] {
+            let explained = ExplainCall::fitting(turn % 3, d, n + k, longer.clone());
+            assert_eq!(parts(&explained, implementation).quotient, moved[k], "place {k} of {call:?}");
+        }
+    }
 }
 
 fn places_at_their_edges(implementation: &dyn Implementation) {

@@ -8,7 +8,7 @@ use conformance::tables::{order, table};
 use std::fs;
 use std::process::Command;
 use straightener::{
-    ask, commit, forecast, move_line, Border, Kernel, Reading, Refusal, Setting, BLACK, WHITE,
+    ask, commit, explain, forecast, move_line, Border, Kernel, Reading, Refusal, Setting, BLACK, WHITE,
 };
 
 /// The programs in a language that a text shows.
@@ -26,7 +26,7 @@ fn line<'a>(text: &'a str, begin: &str) -> &'a str {
 fn the_c_programs_by_their_link_lines() {
     let (readme, folder) = (read("README.md"), Temporary::new("readme-c"));
     done(&mut make("install", &folder.path("")));
-    let (names, shown) = (["program", "points", "ask", "forecast"], programs(&readme, "c"));
+    let (names, shown) = (["program", "points", "ask", "forecast", "explain"], programs(&readme, "c"));
     assert_eq!(shown.len(), names.len(), "a program of README has no name here");
     for (name, program) in names.into_iter().zip(shown) {
         fs::write(folder.path(&format!("{name}.c")), program).expect("the program can be written");
@@ -115,6 +115,21 @@ fn the_overshoot_of_each_kernel() {
         let [darkest, lightest] = extremes.map(|sample| f64::from(sample) / 128.0);
         assert_eq!(row[3], format!("{darkest:.1} to {lightest:.1}"), "{name}");
     }
+}
+
+/// README's board is what the explanation that it names prints.
+#[test]
+fn what_made_a_sample() {
+    let readme = read("README.md");
+    let (_, rest) = readme.split_once("println!(\"{}\", explain(").expect("the explanation");
+    let (said, rest) = rest.split_once(")?)").expect("its end");
+    assert_eq!(said, "Kernel::Keys, -2_048, 3, &[0, 0, 16, 0]");
+    let made = explain(Kernel::Keys, -2_048, 3, &[0, 0, 16, 0]).expect("an explanation");
+    let board: Vec<_> = rest.lines().skip(2).map_while(|line| line.strip_prefix("    ")).collect();
+    assert_eq!(board, made.to_string().lines().collect::<Vec<_>>());
+    let (mut result, mut work) = ([0; 4], [0; 24]);
+    move_line(Kernel::Keys, -2_048, Border::Wrapped, &[0, 0, 16, 0], &mut result, &mut work).expect("a move");
+    assert!(readme.contains("0 0 16 0 by half a sample to -1 9 9 -1") && result == [-1, 9, 9, -1]);
 }
 
 /// README's lines, each moved toward lower places by every kernel.

@@ -15,7 +15,7 @@ pub struct Term {
     /// Its weight.
     pub weight: i64,
     /// With linear and Keys the sample that stands there, in units of 1/128 grey; with the spline its
-    /// coefficient, which is 16 times as large.
+    /// coefficient, in sixteenths of such a unit.
     pub value: i32,
     /// Weight times value.
     pub product: i64,
