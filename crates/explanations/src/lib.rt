@@ -39,18 +39,21 @@ pub struct Explanation {
     pub parts: Parts,
 }
 
-// What a kernel's weighted sum is divided by.
+// D³, for the D = 4,096 parts of a sample.
+const CUBE: i64 = 68_719_476_736;
+
+// What a kernel's weighted sum is divided by: n·D³, and 16 times that for the spline, whose coefficients are in sixteenths of a unit.
 fn divisor_of(kernel: u32) -> i64
     requires { ⌜ kernel ≤ 2 ⌝ }
     ensures { λ r. ⌜ r ≡ pos (divisor (kernelOf kernel)) ⌝ }
 {
     if kernel == 0 {
-        return 68719476736;
+        return CUBE;
     }
     if kernel == 1 {
-        return 137438953472;
+        return 2 * CUBE;
     }
-    6597069766656
+    96 * CUBE
 }
 
 // A kernel's four weights for a line that moves by d.
@@ -67,10 +70,8 @@ fn place_of(n: usize, d: i32, k: usize, i: usize) -> usize
     requires { ⌜ (1 ≤ n) × (n ≤ 1024) × (natAbs d ≤ 4194304) × (k < n) × (i < 4) ⌝ }
     ensures { λ r. ⌜ (r ≡ placeOf n d k i) × (r < n) ⌝ }
 {
-    arith::wrapped(
-        k as i64 + arith::whole_part(arith::wide(d)) - 1 + i as i64,
-        n,
-    )
+    let place = k as i64 + arith::whole_part(arith::wide(d)) - 1 + i as i64;
+    arith::wrapped(place, n)
 }
 
 // Term i of output k, of a line as its kernel weighs it.
@@ -163,7 +164,8 @@ pub fn explain(
 ) -> Explanation
     ensures { λ r. ⌜ Explained n kernel d k (now (line .entry)) (now (work .entry)) (now (work .exit)) r ⌝ }
 {
-    let verdict = lines::judge(n, kernel, d, 7, n <= k, line, line.len(), work.len());
+    let beyond = n <= k;
+    let verdict = lines::judge(n, kernel, d, 7, beyond, line, line.len(), work.len());
     match verdict {
         Verdict::Refused(_, _, _) => Explanation {
             verdict,

@@ -2,18 +2,16 @@
 -- the spline. Assumes nothing.
 use mathlib.Core.Path.{_≡_, refl, sym, ap, _∙_}
 use mathlib.Core.Bool.{cond}
-use mathlib.Core.List.{List, _++_}
+use mathlib.Core.List.{List}
 use Prim.Native.Nat.{ℕ, _≤_, _<_}
 use native.Mathlib.Omega.{arith}
 use lib.Dec.{ltb}
 use lib.IntN.{ℤ, pos, natAbs, _+ℤ_}
-use lib.ListN.{length, take, drop}
+use lib.ListN.{length, take}
 use lib.Seq.{getD-take}
 use Rattle.lists.specs.Line.{line}
 use Rattle.lists.specs.Ends.{smallest, largest}
 use Rattle.lists.proofs.Ends.{smallest-plus, largest-plus}
-use Rattle.refusals.specs.declared.Verdict.the-variants.{Accepted}
-use Rattle.refusals.specs.Judging.{whenAccepted}
 use Rattle.settings.specs.declared.Border.{Border}
 use Rattle.kernels.specs.Kernel.{kernelOf}
 use Rattle.moves.specs.Border.{moveIn}
@@ -21,7 +19,7 @@ use Rattle.moves.specs.Range.{Raised, RaisedWithin}
 use Rattle.moves.proofs.Range.{linear-keys-add, fraction-raised, kernel-spline, kernel-not-spline}
 use Rattle.moves.proofs.Nearly.{moveIn-nearly}
 use Rattle.lines.specs.declared.LineOutcome.{LineOutcome}
-use Rattle.lines.specs.Answer.{judged, Movable, isInterpolated, outcomeOf, numberOf, countOf, smallestOf, largestOf, LineMoved}
+use Rattle.lines.specs.Answer.{Movable, isInterpolated, outcomeOf, numberOf, countOf, smallestOf, largestOf, LineMoved}
 use Rattle.lines.specs.Raised.{BothMoved, LineRaised}
 use Rattle.lines.proofs.Answer.{taken, was-accepted, was-movable, was-moved}
 
@@ -29,6 +27,7 @@ use Rattle.lines.proofs.Answer.{taken, was-accepted, was-movable, was-m
 abbrev Told : ℕ → ℤ → Border → List ℤ → LineOutcome → Type 0
 Told n d β result′ r = (smallestOf r ≡ smallest (line result′) n) × (largestOf r ≡ largest (line result′) n) × (countOf r ≡ cond (isInterpolated β n d) 1 0)
 
+-- ---- what a call that answers number 0 told
 module _ {n kernel : ℕ} {d : ℤ} {β : Border} {line₁ result work result′ work′ : List ℤ} {r : LineOutcome}
     (a : LineMoved n kernel d β line₁ result work result′ work′ r) (zero : numberOf r ≡ 0) where
   was-told : Told n d β result′ r

@@ -61,14 +61,14 @@ pub struct Explanation {
 /// assert_eq!(made.quotient, -1);
 /// assert_eq!(made.terms.map(|term| term.place), [2, 3, 0, 1]);
 /// let board = "\
-/// place          weight  value           product
-///     2  -8,589,934,592     16  -137,438,953,472
-///     3  77,309,411,328      0                 0
-///     0  77,309,411,328      0                 0
-///     1  -8,589,934,592      0                 0
-///                          sum  -137,438,953,472
-///                      divisor   137,438,953,472
-///                     quotient                -1";
+/// place          weight     value           product
+///     2  -8,589,934,592        16  -137,438,953,472
+///     3  77,309,411,328         0                 0
+///     0  77,309,411,328         0                 0
+///     1  -8,589,934,592         0                 0
+///                             sum  -137,438,953,472
+///                         divisor   137,438,953,472
+///                        quotient                -1";
 /// assert_eq!(made.to_string(), board);
 ///
 /// assert_eq!(explain(Kernel::Keys, -2_048, 4, &line), Err(Refusal::Point));
@@ -99,23 +99,22 @@ fn with_commas(number: i64) -> String {
 
 impl fmt::Display for Explanation {
     fn fmt(&self, f: &mut fmt::Formatter<'_>) -> fmt::Result {
-        let row = |term: &Term| {
-            let Term { place, weight, value, product } = *term;
+        let row = |Term { place, weight, value, product }| {
             [place.to_string(), with_commas(weight), with_commas(value.into()), with_commas(product)]
         };
-        let rows = [["place", "weight", "value", "product"].map(str::to_string)];
-        let rows: Vec<_> = rows.into_iter().chain(self.terms.iter().map(row)).collect();
-        let below = [("sum", self.sum), ("divisor", self.divisor), ("quotient", self.quotient.into())]
-            .map(|(label, number)| (label, with_commas(number)));
+        let under_the_products =
+            |label: &str, number| [String::new(), String::new(), label.to_string(), with_commas(number)];
+        let [a, b, c, e] = self.terms.map(row);
+        let heads = ["place", "weight", "value", "product"].map(str::to_string);
+        let sum = under_the_products("sum", self.sum);
+        let divisor = under_the_products("divisor", self.divisor);
+        let quotient = under_the_products("quotient", self.quotient.into());
+        let rows = [heads, a, b, c, e, sum, divisor, quotient];
         let widest = |column: usize| rows.iter().map(|row| row[column].len()).max().unwrap_or_default();
-        let [places, weights, values, products] = [0, 1, 2, 3].map(widest);
-        let last = below.iter().map(|(_, number)| number.len()).fold(products, usize::max);
-        for [place, weight, value, product] in &rows {
-            writeln!(f, "{place:>places$}  {weight:>weights$}  {value:>values$}  {product:>last$}")?;
-        }
-        let before = places + 2 + weights + 2 + values;
-        let [sum, divisor, quotient] =
-            below.map(|(label, number)| format!("{label:>before$}  {number:>last$}"));
-        write!(f, "{sum}\n{divisor}\n{quotient}")
+        let [p, w, v, x] = [0, 1, 2, 3].map(widest);
+        let lines = rows.each_ref().map(|[place, weight, value, product]| {
+            format!("{place:>p$}  {weight:>w$}  {value:>v$}  {product:>x$}")
+        });
+        f.write_str(&lines.join("\n"))
     }
 }

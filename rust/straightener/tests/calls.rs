@@ -2,9 +2,9 @@
 
 use std::collections::HashSet;
 use straightener::{
-    answer_line, ask, commit, floats_out, forecast, greys_out, level, level_checked, line_work_places,
-    move_line, raw, reading, sine, straighten, straightened, summary, work_places, Border, Kernel, Refusal,
-    Setting, Ticket,
+    answer_line, ask, commit, explain, floats_out, forecast, greys_out, level, level_checked,
+    line_work_places, move_line, raw, reading, sine, straighten, straightened, summary, work_places, Border,
+    Kernel, Refusal, Setting, Ticket,
 };
 
 #[test]
@@ -80,6 +80,60 @@ fn a_refused_forecast() {
     let too_large = refusal(2, setting, 32_768);
     assert_eq!(too_large, Refusal::Sample { row: 0, column: 0 });
     assert!(too_large.to_string().contains("the largest sample size given for a forecast"), "{too_large}");
+}
+
+/// Whether all lines of a board end at the same column.
+fn is_flush(board: &str) -> bool {
+    let mut widths = board.lines().map(str::len);
+    let first = widths.next();
+    widths.all(|width| Some(width) == first)
+}
+
+#[test]
+fn what_made_a_sample() {
+    let line = [[1_000; 3], [9_000; 3]].concat();
+    for kernel in [Kernel::Linear, Kernel::Keys, Kernel::Spline] {
+        let (mut result, mut work) = ([0; 6], vec![0; line_work_places(6)]);
+        move_line(kernel, 700, Border::Wrapped, &line, &mut result, &mut work).expect("nothing is wrong");
+        for (k, &sample) in result.iter().enumerate() {
+            let made = explain(kernel, 700, k, &line).expect("a place of the line");
+            assert_eq!(made.quotient, sample, "place {k} with {kernel:?}");
+            assert!(made.terms.iter().all(|term| term.product == term.weight * i64::from(term.value)));
+            assert_eq!(made.sum, made.terms.iter().map(|term| term.product).sum::<i64>());
+            let board = made.to_string().replace(',', "");
+            let cells: Vec<Vec<_>> = board.lines().map(|line| line.split_whitespace().collect()).collect();
+            assert_eq!(cells[0], ["place", "weight", "value", "product"]);
+            for (cells, term) in cells[1..5].iter().zip(&made.terms) {
+                let figures = [term.place as i64, term.weight, term.value.into(), term.product];
+                assert_eq!(*cells, figures.map(|figure| figure.to_string()), "{made}");
+            }
+            let figures = [made.sum, made.divisor, sample.into()].map(|figure| figure.to_string());
+            let [sum, divisor, quotient] = &figures;
+            assert_eq!(cells[5..], [["sum", sum], ["divisor", divisor], ["quotient", quotient]], "{made}");
+            assert!(is_flush(&made.to_string()), "{made}");
+        }
+    }
+}
+
+#[test]
+fn a_board_has_room_for_the_largest_figures() {
+    let line = [294_912, -294_912].repeat(20);
+    for made in [explain(Kernel::Spline, 0, 20, &line), explain(Kernel::Spline, -1, 0, &[-294_912])] {
+        let board = made.expect("nothing is wrong").to_string();
+        assert!(board.lines().count() == 8 && is_flush(&board), "{board}");
+    }
+}
+
+#[test]
+fn a_refused_explanation() {
+    let refusal = |d, k, line: &[i32]| explain(Kernel::Spline, d, k, line).expect_err("a refusal");
+    assert_eq!(refusal(0, 0, &[]), Refusal::Size);
+    assert_eq!(refusal(0, 0, &[0; 1_025]), Refusal::Size);
+    assert_eq!(refusal(4_194_305, 9, &[0, 0, 294_913]), Refusal::Shear);
+    assert_eq!(refusal(-4_194_304, 3, &[0, 0, 294_913]), Refusal::Point);
+    assert_eq!(refusal(-4_194_304, usize::MAX, &[0, 0, 294_913]), Refusal::Point);
+    assert_eq!(refusal(-4_194_304, 2, &[0, 0, 294_913]), Refusal::Sample { row: 0, column: 2 });
+    assert!(Refusal::Point.to_string().contains("a place beyond its line"));
 }
 
 #[test]

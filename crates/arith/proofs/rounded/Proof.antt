@@ -1,9 +1,9 @@
 -- `rounded` adds half of r and rounds down: what is left over is taken away, and then `/` is exact. Assumes nothing.
-use mathlib.Core.Path.{_≡_, refl, sym, ap, ap₂, _∙_}
+use mathlib.Core.Path.{_≡_, sym, ap, _∙_}
 use Prim.Native.Nat.{ℕ, _/_, _≤_, _<_}
 use native.Mathlib.Omega.{arith}
 use lib.IntN.{ℤ, pos, negsuc, natAbs, _+ℤ_, _-ℤ_, _*ℤ_}
-use lib.Signed.{_≤ℤ_, _<ℤ_, quotZ, leZ-yes}
+use lib.Signed.{_≤ℤ_, _<ℤ_, quotZ}
 use mir.Syntax.{w64}
 use mir.Facts.{toZ-ofZ}
 use Rattle.arith.specs.Whole.{floor, remainder, round}

@@ -3,7 +3,6 @@ use mathlib.Core.Path.{_≡_, sym, _∙_}
 use borrow.Author.Needs.{needs}
 use lib.ListN.{length}
 use mir.Facts.{toZ-ofZ}
-use Rattle.refusals.specs.declared.Verdict.{Verdict}
 use Rattle.explanations.specs.Answer.{judged}
 use Rattle.explanations.proofs.Call.{accepted, refused-answer, accepted-answer}
 use Rattle.explanations.proofs.explain.Statement.{statement}

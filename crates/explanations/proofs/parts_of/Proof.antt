@@ -3,7 +3,6 @@
 use mathlib.Core.Path.{_≡_, refl, sym, ap, ap₂, _∙_}
 use Prim.Native.Nat.{ℕ, _≤_, _<_}
 use native.Mathlib.Omega.{arith}
-use borrow.Author.Needs.{needs}
 use lib.Dec.{lit<}
 use lib.IntN.{ℤ, pos, natAbs, _+ℤ_, _*ℤ_}
 use lib.ListN.{length}
@@ -21,12 +20,12 @@ use Rattle.arith.proofs.Compute.{Code, arg, _+ᵐ_, plain, run, Ranges, need, v
 use Rattle.lists.specs.Line.{Line, line}
 use Rattle.kernels.specs.declared.FourWeights.{FourWeights}
 use Rattle.kernels.specs.Kernel.{Kernel, Linear, Keys, Spline, kernelOf, weight, weigh}
-use Rattle.kernels.specs.Four.{fourWeights, weightedSum, Modest, Weighable}
+use Rattle.kernels.specs.Four.{fourWeights, weightedSum, Modest}
 use Rattle.kernels.proofs.Four.{weights-modest, weigh-four, Fitting, products-fit}
 use Rattle.moves.specs.Move.{divisor}
 use Rattle.explanations.specs.declared.Term.{Term}
 use Rattle.explanations.specs.Made.{placeOf, valueOf, termBy, Weighed}
-use Rattle.explanations.proofs.Made.{place-inside, termOf, sumOf, parts-are}
+use Rattle.explanations.proofs.Made.{place-inside, sumOf, parts-are}
 use Rattle.explanations.proofs.parts_of.Statement.{statement}
 use Rattle.explanations.proofs.parts_of.Tie as tie
 

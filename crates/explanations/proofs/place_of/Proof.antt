@@ -34,8 +34,8 @@ module _ (c : tie.After-whole-part) where
       (minus-sized (plus-sized (nat-sized 1024 (omega arith) tt) (arg-sized 4194304 (record { sfits = c .whole-part .ok }) size) tt) (num-sized 1 tt) tt)
       (nat-sized 3 (omega arith) tt) tt
 
-cast-wrapped : tie.Need-cast-wrapped
-cast-wrapped c = search needs
+cast-place : tie.Need-cast-place
+cast-place c = search needs
 
 wide-requires : tie.Need-wide-requires
 wide-requires c κs = search needs
@@ -43,17 +43,17 @@ wide-requires c κs = search needs
 whole-part-requires : tie.Need-whole-part-requires
 whole-part-requires c κs = rw (far-is c) (omega arith)
 
-add-wrapped : tie.Need-add-wrapped
-add-wrapped c = fit 0 (place c)
+add-place : tie.Need-add-place
+add-place c = fit 0 (place c)
 
-sub-wrapped : tie.Need-sub-wrapped
-sub-wrapped c = fit 1 (place c)
+sub-place : tie.Need-sub-place
+sub-place c = fit 1 (place c)
 
-cast-wrapped-2 : tie.Need-cast-wrapped-2
-cast-wrapped-2 c = search needs
+cast-place-2 : tie.Need-cast-place-2
+cast-place-2 c = search needs
 
-add-wrapped-2 : tie.Need-add-wrapped-2
-add-wrapped-2 c = fit 2 (place c)
+add-place-2 : tie.Need-add-place-2
+add-place-2 c = fit 2 (place c)
 
 wrapped-requires : tie.Need-wrapped-requires
 wrapped-requires c κs = search needs
@@ -69,12 +69,12 @@ pub place-of-spec : {M : Type 1} → statement M
 place-of-spec =
     tie.close
     (tie.spec
-    cast-wrapped
+    cast-place
     wide-requires
     whole-part-requires
-    add-wrapped
-    sub-wrapped
-    cast-wrapped-2
-    add-wrapped-2
+    add-place
+    sub-place
+    cast-place-2
+    add-place-2
     wrapped-requires
     returns)
