@@ -229,7 +229,7 @@ typedef struct {
 /*
  * What made one sample of a moved line; every figure is 0 where refused.
  *   number, row, column  as in straightener_answer
- *   terms                the four source places in their order, from the one before the sample's own on
+ *   terms                the four terms, in the order of the places that straightener_explain names
  *   sum                  the sum of the four products
  *   divisor              what the sum is divided by
  *   quotient             the sum over the divisor, to the nearest whole number, halves upward: the sample, in

@@ -1,5 +1,6 @@
 -- The call: what an accepted one has passed, and its answer in either case. Assumes nothing.
 use mathlib.Core.Path.{_≡_, refl, sym, ap, _∙_, subst}
+use mathlib.Core.Bool.{_||_}
 use mathlib.Core.List.{List, [], _∷_, _++_, map}
 use Prim.Native.Nat.{ℕ, _*_, _≤_, _<_}
 use native.Mathlib.Omega.{arith}
@@ -12,12 +13,13 @@ use Rattle.lists.specs.Line.{line}
 use Rattle.refusals.specs.declared.Verdict.{Verdict}
 use Rattle.refusals.specs.declared.Verdict.the-variants.{Accepted, Refused}
 use Rattle.refusals.specs.Tests.{badSide, short, badKernel, beyondOf, firstFrom, firstBad}
+use Rattle.refusals.specs.Judging.{refusedIf, ofFound}
 use Rattle.refusals.proofs.Judging.{AcceptedByZero}
 use Rattle.settings.specs.declared.Border.the-variants.{Wrapped}
 use Rattle.kernels.specs.Kernel.{kernelOf}
 use Rattle.moves.specs.Move.{source}
 use Rattle.moves.specs.Border.{moveIn}
-use Rattle.lines.specs.Answer.{tooShort, judgedBy}
+use Rattle.lines.specs.Answer.{farthest, range, tooShort, judgedBy}
 use Rattle.lines.proofs.Answer.{passed, by-zero}
 use Rattle.explanations.specs.declared.Parts.{Parts}
 use Rattle.explanations.specs.Made.{partsOf, noParts}
@@ -90,6 +92,18 @@ first-of-two = refl
 refused-parts : explanationOf 2 0 (pos 0) 2 three 12 ≡ record { verdict = Refused 7 0 0; parts = noParts }
 unfolding explanationOf judged judgedBy tooShort badSide short badKernel beyondOf
 refused-parts = refl
+
+-- ---- the numbers in their order: 1, 2, 4, 5, 7 and 6
+pub in-order : (n kernel : ℕ) (d : ℤ) (k : ℕ) (s : List ℤ) (work : ℕ)
+    → judged n kernel d k s work
+    ≡ refusedIf (badSide n) 1
+    (refusedIf (short (length s) n || short work (6 * n)) 2
+    (refusedIf (beyondOf farthest d) 4
+    (refusedIf (badKernel kernel) 5
+    (refusedIf (leb n k) 7
+    (ofFound 6 (firstBad range n 1 s))))))
+unfolding judged judgedBy tooShort
+in-order n kernel d k s work = refl
 
 -- ---- what an accepted call has passed
 pub accepted : (n kernel : ℕ) (d : ℤ) (k : ℕ) (s : List ℤ) (work : ℕ) → judged n kernel d k s work ≡ Accepted → Explainable n kernel d k s work

@@ -3,14 +3,12 @@ use mathlib.Core.Path.{_≡_, refl, sym, ap, _∙_, fun-ext}
 use mathlib.Core.List.{List, [], _∷_}
 use Prim.Native.Nat.{ℕ, zero, suc, _+_, _*_, _≤_, _<_}
 use native.Mathlib.Omega.{arith}
-use lib.IntN.{ℤ, pos, negsuc, negℤ, natAbs, _+ℤ_, _-ℤ_, _*ℤ_}
+use lib.IntN.{ℤ, pos, negsuc, natAbs, _+ℤ_, _-ℤ_, _*ℤ_}
 use lib.ListN.{length, getD, take}
 use lib.Seq.{getD-take}
 use Rattle.arith.specs.Whole.{floor, remainder, round}
 use Rattle.arith.specs.Move.{fraction, whole}
 use Rattle.arith.specs.Sum.{Σ}
-use Rattle.arith.proofs.Laws.{natAbs-negℤ}
-use Rattle.arith.proofs.Machine.{shr-size}
 use Rattle.arith.proofs.Round.{remainder-is}
 use Rattle.lists.specs.Tab.{tab}
 use Rattle.lists.specs.Line.{Line, wrap, line}
@@ -62,7 +60,7 @@ linear-half :
 unfolding partsBy placeOf source remainder floor round fraction whole tab weigh Σ
 linear-half = refl
 
--- 0 6 by half a sample under the spline: coefficients, which carry a factor of 16, over 16·6·D³
+-- 0 6 by half a sample under the spline: coefficients, in sixteenths of a unit, over 16·6·D³
 spline-coefficients :
     partsAt 2 (pos 2048) 0 (pos 0 ∷ pos 6 ∷ [])
     ≡ record {
@@ -79,12 +77,7 @@ spline-coefficients :
 unfolding partsBy placeOf source coefficient scaled v back down filter u run wrap remainder floor round fraction whole tab weigh Σ
 spline-coefficients = refl
 
--- ---- the places
-pub whole-size : (d : ℤ) → natAbs (whole d) ≤ natAbs d
-unfolding whole floor
-whole-size d = omega (arith, shr-size (negℤ d) 4096, natAbs-negℤ d)
-
--- every source place is on the line
+-- ---- every source place is on the line
 pub place-inside : (N : ℕ) (d : ℤ) (k i : ℕ) → 0 < N → placeOf N d k i < N
 unfolding placeOf
 place-inside N d k i h = remainder-is (pos k +ℤ whole d -ℤ pos 1 +ℤ pos i) N h .1

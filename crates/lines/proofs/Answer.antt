@@ -1,11 +1,11 @@
 -- The call that moves one line: what an accepted call has passed, what its buffers hold at each step, and the answer in either case.
 -- Assumes nothing.
 use mathlib.Core.Path.{_≡_, refl, sym, ap, _∙_, subst}
-use mathlib.Core.Bool.{Bool, false, _||_, cond}
+use mathlib.Core.Bool.{Bool, true, false, _||_, cond}
 use mathlib.Core.List.{List, _++_}
 use Prim.Native.Nat.{ℕ, _+_, _*_, _-_, _≤_, _<_, min}
 use native.Mathlib.Omega.{arith}
-use borrow.Author.Tests.{le-ltb, ne-eqb}
+use borrow.Author.Tests.{lt-ltb, le-ltb, ltb-true, ltb-false, ne-eqb}
 use lib.Dec.{ltb}
 use lib.IntN.{ℤ, pos, natAbs}
 use lib.ListN.{length, getD, take, drop, replicate, List·getD-append}
@@ -21,7 +21,7 @@ use Rattle.lists.proofs.Ends.{extremes-first}
 use Rattle.lists.proofs.Grid.{put-front, put-cong}
 use Rattle.refusals.specs.declared.Verdict.the-variants as verdict
 use Rattle.refusals.specs.Tests.{badSide, short, badKernel, beyondOf, firstBad}
-use Rattle.refusals.specs.Judging.{refusedIf, whenAccepted}
+use Rattle.refusals.specs.Judging.{refusedIf, ofFound, whenAccepted}
 use Rattle.refusals.specs.Judging as judging
 use Rattle.refusals.proofs.Tests.{or-false, side-good, short-good, kernel-good, beyond-good, good-beyond}
 use Rattle.refusals.proofs.First.{nothing-bad}
@@ -44,6 +44,28 @@ use Rattle.lines.specs.Answer.{farthest, range, workPlaces, tooShort, ju
 pub work-asked : (n held work : ℕ) → badSide n ≡ false → tooShort n held work ≡ (short held n || short work (workPlaces n))
 unfolding tooShort workPlaces
 work-asked n held work good = rw good refl
+
+-- ---- the numbers of a move in their order: 1, 2, 4, 5, 12 and 6. Line and result are judged by the shorter of the two
+shorter : (a b n : ℕ) (t u : Bool) → ltb a n ≡ t → ltb b n ≡ u → ltb (min a b) n ≡ (t || u)
+shorter a b n true u e f = lt-ltb (min a b) n (omega (arith, ltb-true a n e))
+shorter a b n false true e f = lt-ltb (min a b) n (omega (arith, ltb-true b n f))
+shorter a b n false false e f = le-ltb (min a b) n (omega (arith, ltb-false a n e, ltb-false b n f))
+
+or-assoc : (t u v : Bool) → ((t || u) || v) ≡ (t || (u || v))
+or-assoc true u v = refl
+or-assoc false u v = refl
+
+pub in-order : (n kernel : ℕ) (d : ℤ) (β : Border) (line : List ℤ) (result work : ℕ)
+    → judged n kernel d β line result work
+    ≡ refusedIf (badSide n) 1
+    (refusedIf (short (length line) n || (short result n || short work (6 * n))) 2
+    (refusedIf (beyondOf farthest d) 4
+    (refusedIf (badKernel kernel) 5
+    (refusedIf (badBackground β) 12
+    (ofFound 6 (firstBad range n 1 line))))))
+unfolding judged judgedBy tooShort short
+in-order n kernel d β line result work =
+    rw (shorter (length line) result n (ltb (length line) n) (ltb result n) refl refl, or-assoc (ltb (length line) n) (ltb result n) (ltb work (6 * n))) refl
 
 -- ---- what an accepted call has passed, and that number 0 says it is accepted
 module _ (n kernel : ℕ) (d : ℤ) (own : ℕ) (applies : Bool) (line : List ℤ) (held work : ℕ) where

@@ -170,7 +170,7 @@ pub struct straightener_explanation_answer {
     pub row: usize,
     /// As in [`straightener_answer`].
     pub column: usize,
-    /// The four terms in the order of their places.
+    /// The four terms.
     pub terms: [straightener_term; 4],
     /// The sum of the products.
     pub sum: i64,

@@ -28,7 +28,7 @@ pub struct Term {
 #[derive(Clone, Copy, Debug, PartialEq, Eq, Hash)]
 #[non_exhaustive]
 pub struct Explanation {
-    /// The four source places in their order, from the one before the sample's own on.
+    /// The four terms, in the order of the places that [`explain`] names.
     pub terms: [Term; 4],
     /// The sum of the four products.
     pub sum: i64,
@@ -44,9 +44,9 @@ pub struct Explanation {
 ///
 /// The line has 1 to 1,024 samples within plus or minus 294,912, d lies within plus or minus 4,194,304, and k is below
 /// the line's length. With f for -d modulo 4,096 and q for (-d - f)/4,096 the places are k + q - 1 to k + q + 2, each
-/// modulo the line's length, so that one can come up more than once. The weights are those of the kernel at f; they
-/// sum to 4,096³ times 1 with linear, 2 with Keys and 6 with the spline. That is the divisor, too, and sixteen times that
-/// with the spline, whose values are coefficients.
+/// modulo the line's length, so that one can come up more than once. The weights are the kernel's at f; they sum to
+/// 4,096³ times 1 with linear, 2 with Keys and 6 with the spline. The divisor is that sum, and with the spline sixteen
+/// times it.
 ///
 /// Refused with [`Refusal::Size`], [`Refusal::Shear`], [`Refusal::Point`] for a place beyond the line, or
 /// [`Refusal::Sample`], the first of them that applies.

@@ -1,20 +1,25 @@
 -- `explanations::place_of` meets its contract: k + q - 1 + i lies far inside 64 bits. Assumes nothing.
 use mathlib.Core.Path.{_≡_, ap, _∙_}
-use Prim.Native.Nat.{_≤_}
+use Prim.Native.Nat.{ℕ, _≤_, _<_}
 use native.Mathlib.Omega.{arith}
 use borrow.Author.Needs.{needs}
-use lib.IntN.{pos, natAbs, _+ℤ_, _-ℤ_}
+use lib.IntN.{ℤ, pos, negℤ, natAbs, _+ℤ_, _-ℤ_, _*ℤ_}
 use mir.Syntax.{w64}
 use mir.Val.{toZ, ofZ}
 use mir.Facts.{toZ-ofZ}
 use Rattle.arith.specs.Whole.{remainder}
 use Rattle.arith.specs.Move.{whole}
+use Rattle.arith.proofs.Bridge.{bridge, all2}
 use Rattle.arith.proofs.Machine.{read-back}
+use Rattle.arith.proofs.Move.{move-parts}
 use Rattle.arith.proofs.Compute.{nat, arg, num, _+ᵐ_, _-ᵐ_, Sized, nat-sized, arg-sized, num-sized, plus-sized, minus-sized, fit, reads}
 use Rattle.explanations.specs.Made.{placeOf}
-use Rattle.explanations.proofs.Made.{whole-size}
 use Rattle.explanations.proofs.place_of.Statement.{statement}
 use Rattle.explanations.proofs.place_of.Tie as tie
+
+-- q is no farther than d
+near : (d q : ℤ) (f : ℕ) → negℤ d ≡ pos 4096 *ℤ q +ℤ pos f → f < 4096 → natAbs d ≤ 4194304 → natAbs q ≤ 4194304
+near = all2 _ (simp bridge (omega arith))
 
 -- d as it was given
 far-is : (c : tie.After-wide) → toZ w64 (ofZ w64 (c .wide .result)) ≡ c .before .args .d
@@ -29,7 +34,8 @@ module _ (c : tie.After-whole-part) where
 
   place : Sized {w = w64} (nat (s .args .k) +ᵐ arg (c .whole-part .result) -ᵐ num 1 +ᵐ nat (s .args .i)) 4195332
   place =
-      let size : natAbs (c .whole-part .result) ≤ 4194304 = rw whole-is (omega (arith, whole-size (s .args .d))) in
+      let (e, l) = move-parts (s .args .d) in
+      let size : natAbs (c .whole-part .result) ≤ 4194304 = rw whole-is (near (s .args .d) (whole (s .args .d)) _ e l (s .pre .2)) in
       plus-sized
       (minus-sized (plus-sized (nat-sized 1024 (omega arith) tt) (arg-sized 4194304 (record { sfits = c .whole-part .ok }) size) tt) (num-sized 1 tt) tt)
       (nat-sized 3 (omega arith) tt) tt
