@@ -97,8 +97,8 @@ static inline const char *straightener_words(uint32_t number)
                "units to either side of 0 for straightening, 294,912 for a single line, and 1,048,576 for readings and "
                "for levelling with a picture";
     case STRAIGHTENER_REFUSED_POINT:
-        return "a point lies outside the picture, or a place beyond its line; for levelling without a picture, "
-               "coordinates must be from 0 to 1,023";
+        return "a point lies outside the picture, or a place beyond its line, both counted from 0; for levelling "
+               "without a picture, coordinates must be from 0 to 1,023";
     case STRAIGHTENER_REFUSED_SLOPE:
         return "the second point must lie to the right of the first, and no steeper than 45 degrees from it";
     case STRAIGHTENER_REFUSED_LINE:
@@ -214,7 +214,7 @@ typedef struct {
 /*
  * One term of the weighted sum that makes a sample.
  *   place    the source place in the line, counted from 0
- *   weight   its weight
+ *   weight   its weight; straightener_explain says what the four sum to
  *   value    with kernels 0 and 1 the sample that stands there, in units of 1/128 grey; with kernel 2 the
  *            spline's coefficient, in sixteenths of such a unit
  *   product  weight times value
@@ -227,7 +227,7 @@ typedef struct {
 } straightener_term;
 
 /*
- * What made one sample of a moved line; every figure is 0 where refused.
+ * What made one sample of a moved line; terms, sum, divisor and quotient are 0 where refused.
  *   number, row, column  as in straightener_answer
  *   terms                the four terms, in the order of the places that straightener_explain names
  *   sum                  the sum of the four products
@@ -417,14 +417,14 @@ straightener_answer straightener_move_line(size_t n, uint32_t kernel, int32_t d,
                                            int32_t *work, size_t work_len);
 
 /*
- * Shows what made one sample of a moved line, wrapped: the four places that it comes from with their weights and
- * what stands there, the weighted sum, the divisor and the rounded quotient. The quotient is the sample that
- * straightener_move_line writes at place k for the same n, kernel, d and line where the border is wrapped, and
+ * Shows what made one sample of a line that is moved with wrapping: the four places that it comes from, with their
+ * weights and what stands there, the weighted sum, the divisor and the rounded quotient. The quotient is the sample
+ * that straightener_move_line writes at place k for the same n, kernel, d and line where the border is wrapped, and
  * every place of a line that it moves has its explanation.
  *   n       samples of the line, 1 to 1,024
  *   kernel  0, 1 or 2
  *   d       the move in 4,096ths of a sample, toward higher places if positive; within +-4,194,304
- *   k       the place in the moved line, below n
+ *   k       the place in the moved line, counted from 0, so below n
  *   line    at least n places; samples within +-294,912
  *   work    at least straightener_line_work_places(n) places; so many are 0 afterwards
  * Refuses under 1, 2, 4, 5, 7, 6 (with row 0), where 7 is a k that is not below n.

@@ -5,7 +5,7 @@ use mathlib.Core.List.{List, [], _∷_, _++_, map}
 use Prim.Native.Nat.{ℕ, _*_, _≤_, _<_}
 use native.Mathlib.Omega.{arith}
 use borrow.Author.Tests.{leb-false}
-use lib.Dec.{leb}
+use lib.Dec.{leb, lit≤}
 use lib.IntN.{ℤ, pos, negsuc}
 use lib.ListN.{length, take, drop, replicate}
 use lib.Seq.{length-take-le}
@@ -14,6 +14,7 @@ use Rattle.refusals.specs.declared.Verdict.{Verdict}
 use Rattle.refusals.specs.declared.Verdict.the-variants.{Accepted, Refused}
 use Rattle.refusals.specs.Tests.{badSide, short, badKernel, beyondOf, firstFrom, firstBad}
 use Rattle.refusals.specs.Judging.{refusedIf, ofFound}
+use Rattle.refusals.proofs.First.{one-number-good}
 use Rattle.refusals.proofs.Judging.{AcceptedByZero}
 use Rattle.settings.specs.declared.Border.the-variants.{Wrapped}
 use Rattle.kernels.specs.Kernel.{kernelOf}
@@ -24,7 +25,7 @@ use Rattle.lines.proofs.Answer.{passed, by-zero}
 use Rattle.explanations.specs.declared.Parts.{Parts}
 use Rattle.explanations.specs.Made.{partsOf, noParts}
 use Rattle.explanations.specs.Answer.{judged, Explainable, sourceOf, explanationOf, Shown, Explained}
-use Rattle.explanations.proofs.Made.{quotient-moved, parts-shown}
+use Rattle.explanations.proofs.Made.{sum-mixed, quotient-moved, parts-shown}
 
 -- ---- verdicts at the ends of each range and in the order of the numbers, worked out by the checker
 -- a call: n, the kernel, d, k, the line, and the places of the work
@@ -49,6 +50,11 @@ accepted-at-the-ends :
 unfolding judged judgedBy tooShort badSide short badKernel beyondOf firstBad firstFrom
 accepted-at-the-ends = refl
 
+-- computed up to number 6, which zeros do not meet
+longest-accepted : verdictOf (call 1024 1 (pos 0) 1023 (replicate 1024 (pos 0)) 6144) ≡ Accepted
+unfolding judged judgedBy tooShort badSide short badKernel beyondOf
+longest-accepted = rw (one-number-good range 1024 1 1024 (pos 0) (lit≤ tt) (lit≤ tt)) refl
+
 -- one past each end: a place beyond the line is refused though the buffer has it, ahead of a bad sample
 refused-past-the-ends :
     map verdictOf
@@ -61,6 +67,7 @@ refused-past-the-ends :
     ∷ call 2 3 (pos 0) 0 three 12
     ∷ call 2 0 (pos 0) 2 three 12
     ∷ call 3 0 (pos 0) 2 three 18
+    ∷ call 2 0 (pos 0) 0 (pos 0 ∷ negsuc 294912 ∷ []) 12
     ∷ [])
     ≡ Refused 1 0 0
     ∷ Refused 1 0 0
@@ -71,6 +78,7 @@ refused-past-the-ends :
     ∷ Refused 5 0 0
     ∷ Refused 7 0 0
     ∷ Refused 6 0 2
+    ∷ Refused 6 0 1
     ∷ []
 unfolding judged judgedBy tooShort badSide short badKernel beyondOf firstBad firstFrom
 refused-past-the-ends = refl
@@ -141,6 +149,7 @@ module _ (n kernel : ℕ) (d : ℤ) (k : ℕ) (s work : List ℤ) (v : Verdict) 
         answer = rw (← e, t, q) refl;
         work = rw (← e, t) refl;
         shown = λ a. let z : _≡_ {A = ℕ} 0 1 = cc in absurd (omega arith);
+        mixed-sum = λ a. let z : _≡_ {A = ℕ} 0 1 = cc in absurd (omega arith);
         moved = λ a. let z : _≡_ {A = ℕ} 0 1 = cc in absurd (omega arith);
       }
 
@@ -153,5 +162,6 @@ module _ (n kernel : ℕ) (d : ℤ) (k : ℕ) (s work : List ℤ) (v : Verdict) 
         answer = rw (← e, t, q) refl;
         work = rw (← e, t) w;
         shown = λ a. subst (Shown n kernel s) (sym q) (parts-shown n kernel d k s (x .passed .some));
+        mixed-sum = λ a. ap (λ (r : Parts). r .sum) q ∙ sum-mixed (kernelOf kernel) n d k (sourceOf n kernel s) (x .passed .some);
         moved = λ a. ap (λ (r : Parts). r .quotient) q ∙ moved-at n kernel d k s (x .passed .held-room) (x .inside);
       }

@@ -106,12 +106,16 @@ prepared-parts κ d k s h =
     parts-local κ (length s) d k (line (tab (source κ (length s) (line s)) (length s))) (source κ (length s) (line s)) h
     (λ j l. tab-at (source κ (length s) (line s)) (length s) j (pos 0) l)
 
--- ---- the quotient is the sample that a wrapped line has at k when it is moved
+-- ---- the sum is document 01's for output k, and so the quotient is the sample at k of the moved line
+pub sum-mixed : (κ : Kernel) (N : ℕ) (d : ℤ) (k : ℕ) (x : Line) → 0 < N → partsOf κ N d k x .sum ≡ mixed κ N d (wrap N x) k
+unfolding partsBy mixed wrap placeOf
+sum-mixed κ N d k x h = ap (weigh κ (pos (fraction d))) (fun-ext (λ i. ap x (place-is N d k i h)))
+
 pub quotient-moved : (κ : Kernel) (d : ℤ) (k : ℕ) (s : List ℤ) → k < length s
     → partsOf κ (length s) d k (source κ (length s) (line s)) .quotient ≡ line (moveIn Wrapped κ d s) k
-unfolding partsBy moved mixed wrap placeOf moveIn bordered
+unfolding partsBy moved moveIn bordered
 quotient-moved κ d k s l =
-    ap (λ (v : Line). round (weigh κ (pos (fraction d)) v) (divisor κ)) (fun-ext (λ i. ap (source κ (length s) (line s)) (place-is (length s) d k i (omega arith))))
+    ap (λ p. round p (divisor κ)) (sum-mixed κ (length s) d k (source κ (length s) (line s)) (omega arith))
     ∙ sym (tab-at (bordered Wrapped κ (length s) d (line s)) (length s) k (pos 0) l)
 
 -- ---- what is shown of them
@@ -153,6 +157,10 @@ module _ (n kernel : ℕ) (d : ℤ) (k : ℕ) (s : List ℤ) (some : 0 < n) wher
   unfolding partsBy weigh tab Σ
   shown-sum = refl
 
+  shown-divisor : parts .divisor ≡ pos (divisor κ)
+  unfolding partsBy
+  shown-divisor = refl
+
   shown-quotient : parts .quotient ≡ round (parts .sum) (natAbs (parts .divisor))
   unfolding partsBy
   shown-quotient = refl
@@ -169,6 +177,7 @@ module _ (n kernel : ℕ) (d : ℤ) (k : ℕ) (s : List ℤ) (some : 0 < n) wher
         weighed = λ two i l. shown-value i l ∙ ap (λ (y : Line). y (term parts i .place)) (coefficients-of n kernel s two);
         product = shown-product;
         sum = shown-sum;
+        over = shown-divisor;
         quotient = shown-quotient;
         weights = shown-weights;
       }

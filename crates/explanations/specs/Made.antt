@@ -38,7 +38,7 @@ partsBy κ N d k v =
       quotient = round (weigh κ f v) (divisor κ);
     }
 
--- and of the samples or coefficients x that the kernel weighs
+-- and by the samples or coefficients x that the kernel weighs
 abbrev pub partsOf : Kernel → ℕ → ℤ → ℕ → Line → Parts
 partsOf κ N d k x = partsBy κ N d k (valueOf N d k x)
 

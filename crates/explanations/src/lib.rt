@@ -15,8 +15,8 @@ ghost use Rattle.explanations.specs.Answer.{Explainable, sourceOf, Expla
 use kernels::FourWeights;
 use refusals::Verdict;
 
-// One term of the weighted sum: a place of the line, its weight, the sample or coefficient that stands there, and their product. C and Rust are handed
-// it as it is, so it has C's layout.
+// One term of the weighted sum: a place of the line, its weight, the sample that stands there, in units of 1/128 grey, or the coefficient, in sixteenths
+// of such a unit, and their product. C and Rust are handed it as it is, so it has C's layout.
 #[repr(C)]
 pub struct Term {
     pub place: usize,

@@ -1,8 +1,9 @@
 -- What an explanation and a move promise together holds of the structs that C and Rust receive. Assumes nothing.
 use mathlib.Core.Path.{_≡_, refl, sym, ap, _∙_}
+use mathlib.Core.Bool.{Bool, true, false, cond}
 use mathlib.Core.List.{List}
 use Prim.Native.Nat.{ℕ}
-use borrow.Author.Tests.{lt-leb}
+use lib.Dec.{leb}
 use lib.IntN.{ℤ}
 use lib.ListN.{length}
 use Rattle.refusals.specs.declared.Verdict.the-variants.{Accepted}
@@ -17,6 +18,10 @@ use Rattle.flat.specs.declared.ExplanationAnswer.{ExplanationAnswer}
 use Rattle.flat.specs.declared.Answer.{Answer}
 use Rattle.flat.specs.Exported.{Exported, borderOf, ofLine, ofExplanation}
 use Rattle.flat.specs.Sample.{ToldSample}
+
+own-number : (t : Bool) → verdict.numberOf (verdict.refusedIf t 7 Accepted) ≡ cond t 7 0
+own-number true = refl
+own-number false = refl
 
 module _ {n kernel : ℕ} {d : ℤ} {k : ℕ} {s room room′ : List ℤ} {x : ExplanationAnswer} (explaining : Exported ofExplanation (Explained n kernel d k s room room′) x)
     (background : ℤ) {result work result′ work′ : List ℤ} {r : Answer} (moving : Exported ofLine (LineMoved n kernel d (borderOf 0 background) s result work result′ work′) r) where
@@ -37,5 +42,5 @@ module _ {n kernel : ℕ} {d : ℤ} {k : ℕ} {s room room′ : List ℤ} {x : E
       record {
         shown = λ zero. rw (explaining .answer) (explaining .promised .shown (accepted zero));
         sample = λ zero done. ap (λ (y : ExplanationAnswer). y .quotient) (explaining .answer) ∙ both .sample (accepted zero) (moved-zero done);
-        none-left-out = λ done h l. rw (explaining .answer, both .none-left-out (moved-zero done) h, lt-leb n k l) refl;
+        none-left-out = λ done h. rw (explaining .answer, both .none-left-out (moved-zero done) h) (own-number (leb n k));
       }

@@ -235,7 +235,8 @@ impl ExplainCall {
         ExplainCall { n: line.len(), kernel, d, k, work_length: 6 * line.len(), line }
     }
 
-    /// Makes the call; its work is to be 0 where it takes any, and else untouched, and refused every part is 0.
+    /// Makes the call, and holds it to this: the work that it takes is 0 afterwards, all other work untouched, and refused
+    /// every part is 0.
     pub fn run(&self, implementation: &dyn Implementation) -> (Answer, Parts) {
         let mut work = buffer(self.work_length);
         let (answer, parts) = implementation.explain(self, &mut work);

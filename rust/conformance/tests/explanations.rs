@@ -46,10 +46,12 @@ fn every_place_of_a_moved_line(implementation: &dyn Implementation) {
         let (range, d) = (numbers.one_of(&[2, 500, 294_912]), numbers.edgy(4_194_304));
         assert_every_place(turn % 3, d, &numbers.samples(n, range), implementation);
     }
-    // Every fraction of a sample, either way.
+    // Every fraction of a sample, either way, under every kernel.
     let line = numbers.samples(3, 294_912);
-    for d in -4_096_i32..=4_096 {
-        assert_every_place(d.unsigned_abs() % 3, d, &line, implementation);
+    for d in -4_096..=4_096 {
+        for kernel in 0..3 {
+            assert_every_place(kernel, d, &line, implementation);
+        }
     }
 }
 

@@ -160,7 +160,7 @@ pub struct straightener_term {
     pub product: i64,
 }
 
-/// What made one sample of a moved line; every figure is 0 where refused.
+/// What made one sample of a moved line; terms, sum, divisor and quotient are 0 where refused.
 #[repr(C)]
 #[derive(Clone, Copy, Debug, PartialEq, Eq)]
 pub struct straightener_explanation_answer {

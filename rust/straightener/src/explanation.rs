@@ -12,7 +12,7 @@ use std::fmt;
 pub struct Term {
     /// The source place in the line, counted from 0.
     pub place: usize,
-    /// Its weight.
+    /// Its weight; [`explain`] says what the four sum to.
     pub weight: i64,
     /// With linear and Keys the sample that stands there, in units of 1/128 grey; with the spline its
     /// coefficient, in sixteenths of such a unit.
@@ -42,8 +42,8 @@ pub struct Explanation {
 /// that [`move_line`](crate::move_line) writes there for the same kernel, d and line under
 /// [`Border::Wrapped`](crate::Border::Wrapped).
 ///
-/// The line has 1 to 1,024 samples within plus or minus 294,912, d lies within plus or minus 4,194,304, and k is below
-/// the line's length. With f for -d modulo 4,096 and q for (-d - f)/4,096 the places are k + q - 1 to k + q + 2, each
+/// The line has 1 to 1,024 samples within plus or minus 294,912, d lies within plus or minus 4,194,304, and k,
+/// counted from 0, is below the line's length. With f for -d modulo 4,096 and q for (-d - f)/4,096 the places are k + q - 1 to k + q + 2, each
 /// modulo the line's length, so that one can come up more than once. The weights are the kernel's at f; they sum to
 /// 4,096³ times 1 with linear, 2 with Keys and 6 with the spline. The divisor is that sum, and with the spline sixteen
 /// times it.
@@ -84,7 +84,7 @@ pub fn explain(kernel: Kernel, d: i32, k: usize, line: &[i32]) -> Result<Explana
     Ok(Explanation { terms: terms.map(term), sum, divisor, quotient })
 }
 
-/// A number with a comma before each three digits.
+/// A number with commas between its groups of three digits.
 fn with_commas(number: i64) -> String {
     let digits = number.unsigned_abs().to_string();
     let mut text = String::from(if number < 0 { "-" } else { "" });

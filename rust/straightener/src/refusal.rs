@@ -108,8 +108,8 @@ refusals! {
         "the kernel must be 0 (linear), 1 (Keys) or 2 (cubic spline)"
 
         7 Point STRAIGHTENER_REFUSED_POINT
-        "a point lies outside the picture, or a place beyond its line; for levelling without a picture, \
-         coordinates must be from 0 to 1,023"
+        "a point lies outside the picture, or a place beyond its line, both counted from 0; for levelling without \
+         a picture, coordinates must be from 0 to 1,023"
 
         8 Slope STRAIGHTENER_REFUSED_SLOPE
         "the second point must lie to the right of the first, and no steeper than 45 degrees from it"

@@ -47,7 +47,7 @@ pub fn explain(
     } else {
         (places.map(|place| line[place]), over)
     };
-    // A sum of 63 bits, doubled.
+    // The sum takes up to 63 bits, so its double takes more than 64.
     let sum: i128 = weights.iter().zip(values).map(|(&w, v)| i128::from(w) * i128::from(v)).sum();
     let quotient = (2 * sum + i128::from(divisor)).div_euclid(2 * i128::from(divisor)) as i32;
     Ok(Parts { places, weights, values, divisor, quotient })
