@@ -1,6 +1,6 @@
 -- The parts of a sample: they are those of the move, and they add up. Assumes nothing.
 use mathlib.Core.Path.{_≡_, refl, sym, ap, _∙_, fun-ext}
-use mathlib.Core.List.{List, [], _∷_}
+use mathlib.Core.List.{List, [], _∷_, map}
 use Prim.Native.Nat.{ℕ, zero, suc, _+_, _*_, _≤_, _<_}
 use native.Mathlib.Omega.{arith}
 use lib.IntN.{ℤ, pos, negsuc, natAbs, _+ℤ_, _-ℤ_, _*ℤ_}
@@ -14,7 +14,7 @@ use Rattle.lists.specs.Tab.{tab}
 use Rattle.lists.specs.Line.{Line, wrap, line}
 use Rattle.lists.proofs.Tab.{tab-at}
 use Rattle.settings.specs.declared.Border.the-variants.{Wrapped}
-use Rattle.kernels.specs.Kernel.{Kernel, kernelOf, weight, weigh, norm, D³}
+use Rattle.kernels.specs.Kernel.{Kernel, Linear, Keys, Spline, kernelOf, weight, weigh, norm, D³}
 use Rattle.kernels.proofs.Weights.{weights-sum}
 use Rattle.spline.specs.Coefficients.{filter, run, u, down, back, v, scaled, coefficient}
 use Rattle.moves.specs.Move.{mixed, source, divisor, moved}
@@ -26,7 +26,12 @@ use Rattle.explanations.specs.declared.Parts.{Parts}
 use Rattle.explanations.specs.Made.{placeOf, valueOf, termBy, partsBy, partsOf, noTerm}
 use Rattle.explanations.specs.Answer.{sourceOf, term, Shown}
 
--- ---- the parts of three samples, worked out by the checker
+-- ---- the divisors, and the parts of three samples, worked out by the checker
+-- D³, 2·D³ and 16·6·D³, whatever is weighed
+divisors : map (λ κ. partsOf κ 1 (pos 0) 0 (λ j. pos 0) .divisor) (Linear ∷ Keys ∷ Spline ∷ []) ≡ pos 68719476736 ∷ pos 137438953472 ∷ pos 6597069766656 ∷ []
+unfolding partsBy
+divisors = refl
+
 -- of sample k of a line, moved by d under a kernel
 abbrev partsAt : ℕ → ℤ → ℕ → List ℤ → Parts
 partsAt kernel d k s = partsOf (kernelOf kernel) (length s) d k (sourceOf (length s) kernel s)

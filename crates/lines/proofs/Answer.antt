@@ -1,7 +1,7 @@
 -- The call that moves one line: what an accepted call has passed, what its buffers hold at each step, and the answer in either case.
 -- Assumes nothing.
 use mathlib.Core.Path.{_≡_, refl, sym, ap, _∙_, subst}
-use mathlib.Core.Bool.{Bool, true, false, _||_, cond}
+use mathlib.Core.Bool.{Bool, true, false, _||_, cond, or-assoc}
 use mathlib.Core.List.{List, _++_}
 use Prim.Native.Nat.{ℕ, _+_, _*_, _-_, _≤_, _<_, min}
 use native.Mathlib.Omega.{arith}
@@ -50,10 +50,6 @@ shorter : (a b n : ℕ) (t u : Bool) → ltb a n ≡ t → ltb b n ≡ u → ltb
 shorter a b n true u e f = lt-ltb (min a b) n (omega (arith, ltb-true a n e))
 shorter a b n false true e f = lt-ltb (min a b) n (omega (arith, ltb-true b n f))
 shorter a b n false false e f = le-ltb (min a b) n (omega (arith, ltb-false a n e, ltb-false b n f))
-
-or-assoc : (t u v : Bool) → ((t || u) || v) ≡ (t || (u || v))
-or-assoc true u v = refl
-or-assoc false u v = refl
 
 pub in-order : (n kernel : ℕ) (d : ℤ) (β : Border) (line : List ℤ) (result work : ℕ)
     → judged n kernel d β line result work
