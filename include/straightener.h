@@ -11,8 +11,8 @@
  *     cc program.c $(pkg-config --cflags --libs straightener)
  *
  * Straightening     straightener_straighten, straightener_ask, straightener_commit, straightener_forecast,
- *                   straightener_work_places, straightener_move_line, straightener_explain,
- *                   straightener_line_work_places
+ *                   straightener_work_places, straightener_straighten_block, straightener_block_work_places,
+ *                   straightener_move_line, straightener_explain, straightener_line_work_places
  * Settings, steps   straightener_with_kernel, straightener_with_centre, straightener_with_shears,
  *                   straightener_with_border, straightener_with_step, straightener_sine,
  *                   straightener_level, straightener_level_checked
@@ -25,6 +25,10 @@
  * A picture is width times height samples, row by row; columns count to the right and rows downward,
  * both from 0. Width and height are 1 to 1,024. straightener_reading alone knows of black and white, greys
  * 16 and 235 of the video range; all else keeps to 0 and 255, or to no range.
+ *
+ * Blocks. A block is as many pictures as its depth, all of one width and height, one after the other. Width,
+ * height and depth are 1 to 128. The sample at depth z, row y and column x, all counted from 0, is at place
+ * (z * height + y) * width + x.
  *
  * Buffers. A buffer is a pointer and, after it, its length in places (not in bytes). It may be longer
  * than the call needs: later places stay as they are, and nothing that is answered or written depends on
@@ -44,9 +48,9 @@
 #include <stdint.h>
 
 /* The version of this header, as text and as its parts. */
-#define STRAIGHTENER_VERSION "0.8.0"
+#define STRAIGHTENER_VERSION "0.9.0"
 #define STRAIGHTENER_VERSION_MAJOR 0
-#define STRAIGHTENER_VERSION_MINOR 8
+#define STRAIGHTENER_VERSION_MINOR 9
 #define STRAIGHTENER_VERSION_PATCH 0
 
 #ifdef __cplusplus
@@ -67,7 +71,8 @@ enum {
     STRAIGHTENER_REFUSED_LINE = 9,
     STRAIGHTENER_REFUSED_BACKGROUND = 12,
     STRAIGHTENER_REFUSED_TICKET = 14,
-    STRAIGHTENER_REFUSED_THRESHOLD = 15
+    STRAIGHTENER_REFUSED_THRESHOLD = 15,
+    STRAIGHTENER_REFUSED_PLANE = 17
 };
 
 /*
@@ -80,13 +85,15 @@ static inline const char *straightener_words(uint32_t number)
     case STRAIGHTENER_ACCEPTED:
         return "accepted";
     case STRAIGHTENER_REFUSED_SIZE:
-        return "width, height and line length must be from 1 to 1,024";
+        return "width, height and line length must be from 1 to 1,024, and width, height and depth of a block from 1 "
+               "to 128";
     case STRAIGHTENER_REFUSED_BUFFER:
-        return "a buffer is too short: a picture, result or output takes width x height places, a line its "
-               "length, work its work places, and the answer to a line all of its bytes";
+        return "a buffer is too short: a picture, result or output takes width x height places, a block or its result "
+               "width x height x depth, a line its length, work its work places, and the answer to a line all of its "
+               "bytes";
     case STRAIGHTENER_REFUSED_CENTRE:
         return "the centre lies outside the picture: its column must be below the width and its row below the "
-               "height";
+               "height; for a block, below the columns and the rows of its plane";
     case STRAIGHTENER_REFUSED_SHEAR:
         return "a shear must be from -4,096 to 4,096, a step from -1,697 to 1,697, and the move of a line from "
                "-4,194,304 to 4,194,304";
@@ -113,6 +120,8 @@ static inline const char *straightener_words(uint32_t number)
     case STRAIGHTENER_REFUSED_THRESHOLD:
         return "a sample on the line between the two points is below the threshold: the points are not on one "
                "graticule line, or the threshold is too high";
+    case STRAIGHTENER_REFUSED_PLANE:
+        return "the plane must be 0 (across and down), 1 (across and depth) or 2 (down and depth)";
     default:
         return "a number that this header has no words for";
     }
@@ -123,6 +132,9 @@ enum { STRAIGHTENER_LINEAR = 0, STRAIGHTENER_KEYS = 1, STRAIGHTENER_SPLINE = 2 }
 
 /* The borders: beyond its ends a line goes on with its other end, or with background. */
 enum { STRAIGHTENER_WRAPPED = 0, STRAIGHTENER_ON_BACKGROUND = 1 };
+
+/* The planes of a block: the side that is named first has the columns of a slice, the other its rows. */
+enum { STRAIGHTENER_ACROSS_AND_DOWN = 0, STRAIGHTENER_ACROSS_AND_DEPTH = 1, STRAIGHTENER_DOWN_AND_DEPTH = 2 };
 
 /* The cases of a reading: from black to white, below black, above white. */
 enum { STRAIGHTENER_LEVEL = 0, STRAIGHTENER_UNDER = 1, STRAIGHTENER_OVER = 2 };
@@ -137,7 +149,7 @@ enum { STRAIGHTENER_BLACK = 2048, STRAIGHTENER_WHITE = 30080 };
  * How a picture is straightened. Any values may stand in it: they are tested where it is used.
  *   kernel      0, 1 or 2
  *   cx, cy      column and row of the centre, which stays where it is; cx below the width, cy below the
- *               height
+ *               height, or for a block below the columns and the rows of its plane
  *   a, b        shears of the rows and of the columns, in 4,096ths, each from -4,096 to 4,096
  *   border      0 wrapped, any other number background
  *   background  the background's sample value, in units of 1/128 grey, within +-32,767; ignored where
@@ -171,6 +183,25 @@ typedef struct {
     int32_t smallest;
     int32_t largest;
 } straightener_answer;
+
+/*
+ * What straightening a block answers.
+ *   number              0, or the refusal number
+ *   depth, row, column  under number 6 the place of the first sample beyond the range in the order in which the
+ *                       block is stored, whatever the plane; else 0
+ *   count               the number of lines interpolated, as in straightener_answer, summed over the slices
+ *   smallest, largest   the smallest and the largest sample of the straightened block, in units of 1/128 grey;
+ *                       0 where the call is refused
+ */
+typedef struct {
+    uint32_t number;
+    size_t depth;
+    size_t row;
+    size_t column;
+    uint32_t count;
+    int32_t smallest;
+    int32_t largest;
+} straightener_block_answer;
 
 /*
  * What a straightening will do. A ticket is plain numbers, which may be kept, changed or made up: a commit
@@ -388,6 +419,38 @@ straightener_forecast_answer straightener_forecast(size_t width, size_t height,
  * 12 for each sample of the longer side, or 0 for a width or height that they refuse. Nothing is refused.
  */
 size_t straightener_work_places(size_t width, size_t height);
+
+/*
+ * Straightens every slice of a block in one plane, each as straightener_straighten does a picture.
+ *   width, height, depth  1 to 128 each
+ *   plane                 0 across and down: a slice for each depth, of width columns and height rows
+ *                         1 across and depth: a slice for each row, of width columns and depth rows
+ *                         2 down and depth: a slice for each column, of height columns and depth rows
+ *   setting               the same for all slices: cx is below a slice's columns and cy below its rows, a is
+ *                         the shear of its rows and b that of its columns
+ *   block                 at least width * height * depth places; samples within +-32,767
+ *   result                at least width * height * depth places; so many receive the straightened block,
+ *                         stored as the block is
+ *   work                  at least straightener_block_work_places(width, height, depth, plane) places; so many
+ *                         are 0 afterwards, under either border
+ * Refuses under 1, 17, 2, 3, 4, 5, 12, 6, where 1 is a side of 0 or over 128 and 17 a plane other than the
+ * three. All samples are judged before anything is written.
+ * Every slice of the result is what straightener_straighten leaves for that slice of the block, handed in as a
+ * picture of its columns and rows with the same setting; so what is said there of the samples, such as their
+ * distance from exact fractions, holds for each slice. The count is the sum of the slices' counts, and the
+ * smallest and the largest sample are those of the result's width * height * depth places.
+ */
+straightener_block_answer straightener_straighten_block(size_t width, size_t height, size_t depth,
+                                                        uint32_t plane, straightener_setting setting,
+                                                        const int32_t *block, size_t block_len,
+                                                        int32_t *result, size_t result_len,
+                                                        int32_t *work, size_t work_len);
+
+/*
+ * The places of work that straightener_straighten_block takes: 12 for each sample of the longer of the plane's
+ * two sides, or 0 for a width, height, depth or plane that it refuses. Nothing is refused.
+ */
+size_t straightener_block_work_places(size_t width, size_t height, size_t depth, uint32_t plane);
 
 /*
  * Moves one line.

@@ -12,6 +12,7 @@ ghost use Rattle.passes.specs.Count.{count};
 ghost use Rattle.acceptance.specs.Judge.{Fit};
 ghost use Rattle.pictures.specs.Answer.{kernelIn, rowMoves, columnMoves, AnswerOn, Answer};
 use lists::Extremes;
+use planes::Slices;
 use refusals::Verdict;
 use settings::Setting;
 
@@ -22,7 +23,7 @@ pub enum Outcome {
     Refused(u32, usize, usize),
 }
 
-// Rows, columns, rows, in place. Answers how many lines were interpolated.
+// Rows, columns, rows, in place: a picture is one slice of its own. Answers how many lines were interpolated.
 fn three_passes(
     picture: &mut [i32],
     work: &mut [i32],
@@ -35,16 +36,16 @@ fn three_passes(
     ensures { λ r. ⌜ now (picture .exit) ≡ straighten (setting .border) (kernelIn setting) width height (rowMoves setting) (columnMoves setting) (now (picture .entry)) ⌝ }
     ensures { λ r. ⌜ r ≡ count (setting .border) width height (rowMoves setting) (columnMoves setting) ⌝ }
 {
-    let kernel = setting.kernel;
-    let cx = setting.cx;
-    let cy = setting.cy;
-    let a = setting.a;
-    let b = setting.b;
-    let edges = setting.border;
-    let first = shears::pass(picture, work, width, height, 1, width, edges, kernel, a, cy);
-    let second = shears::pass(picture, work, height, width, width, 1, edges, kernel, b, cx);
-    let third = shears::pass(picture, work, width, height, 1, width, edges, kernel, a, cy);
-    first + second + third
+    let own = Slices {
+        columns: width,
+        rows: height,
+        slices: 1,
+        along: 1,
+        across: width,
+        step: width * height,
+    };
+    planes::straighten_slices(picture, work, own, setting);
+    offsets::count_of(width, height, setting)
 }
 
 // An accepted call: the picture is copied into the result and straightened there, and the work places are cleared.

@@ -6,19 +6,22 @@ use native.Mathlib.Omega.{arith}
 use lib.Dec.{ltb, eqb}
 use lib.IntN.{ℤ, natAbs}
 use borrow.Author.Tests.{ltb-true, ltb-false, lt-ltb, le-ltb, eqb-false}
-use Rattle.refusals.specs.Tests.{badSide, badSize, short, badKernel, beyondOf}
+use Rattle.refusals.specs.Tests.{sideBeyond, badSide, badSize, short, badKernel, beyondOf}
 
 pub or-false : (a b : Bool) → (a || b) ≡ false → (a ≡ false) × (b ≡ false)
 or-false true b e = absurd (true≢false e)
 or-false false b e = (refl, e)
 
--- a side from 1 to 1,024
-pub side-good : {n : ℕ} → badSide n ≡ false → (1 ≤ n) × (n ≤ 1024)
-unfolding badSide
-side-good {n} e = let p = or-false (eqb n 0) (ltb 1024 n) e in (some n (eqb-false n 0 (p .0)), ltb-false 1024 n (p .1))
+-- a side from 1 to the most
+pub side-within : (most n : ℕ) → sideBeyond most n ≡ false → (1 ≤ n) × (n ≤ most)
+side-within most n e = let p = or-false (eqb n 0) (ltb most n) e in (some n (eqb-false n 0 (p .0)), ltb-false most n (p .1))
   where
     some : (n : ℕ) → (n ≡ 0 → ⊥) → 1 ≤ n
     some n h = omega arith
+
+pub side-good : {n : ℕ} → badSide n ≡ false → (1 ≤ n) × (n ≤ 1024)
+unfolding badSide
+side-good {n} e = side-within 1024 n e
 
 pub size-good : {width height : ℕ} → badSize width height ≡ false → ((1 ≤ width) × (width ≤ 1024)) × ((1 ≤ height) × (height ≤ 1024))
 unfolding badSize

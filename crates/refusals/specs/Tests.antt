@@ -9,9 +9,13 @@ use Rattle.lists.specs.Line.{line}
 use Rattle.refusals.specs.declared.Found.{Found}
 use Rattle.refusals.specs.declared.Found.the-variants.{Nothing, At}
 
--- 1: a width, height or line length of 0 or over 1,024
+-- 1: a side of 0 or over `most`
+abbrev pub sideBeyond : ℕ → ℕ → Bool
+sideBeyond most n = eqb n 0 || ltb most n
+
+-- a width, height or line length of 0 or over 1,024
 unfoldable pub badSide : ℕ → Bool
-badSide n = eqb n 0 || ltb 1024 n
+badSide n = sideBeyond 1024 n
 
 -- 1, of a picture
 unfoldable pub badSize : ℕ → ℕ → Bool

@@ -4,7 +4,7 @@ ghost use mathlib.Core.Path.{_≡_};
 ghost use Prim.Native.Nat.{_*_, _≤_};
 ghost use lib.ListN.{length};
 ghost use lib.IntN.{natAbs};
-ghost use Rattle.refusals.specs.Tests.{badSide, badSize, beyondOf, firstBad, AllWithin, Limit};
+ghost use Rattle.refusals.specs.Tests.{sideBeyond, badSide, badSize, beyondOf, firstBad, AllWithin, Limit};
 ghost use Rattle.refusals.specs.Judging.{ofFound};
 
 // What the tests say of a call: accepted, or refused under a number, with a row and a column that are 0 where the number names no sample.
@@ -19,11 +19,18 @@ pub enum Found {
     At(usize, usize),
 }
 
+// Whether a side is 0 or over `most` samples.
+pub fn side_beyond(side: usize, most: usize) -> bool
+    ensures { λ r. ⌜ r ≡ sideBeyond most side ⌝ }
+{
+    side == 0 || most < side
+}
+
 // Whether a width, a height or a line length is 0 or over 1,024.
 pub fn bad_side(side: usize) -> bool
     ensures { λ r. ⌜ r ≡ badSide side ⌝ }
 {
-    side == 0 || 1024 < side
+    side_beyond(side, 1024)
 }
 
 // Whether a side of a picture is 0 or over 1,024.
@@ -60,9 +67,9 @@ fn seen_within(row: &[i32], limit: i32) -> usize
 }
 
 // The first sample beyond plus or minus the limit, in row order: rows that are seen at once to be within it are passed over, the others walked. A
-// line is scanned as a picture of height 1.
+// line is scanned as a picture of height 1, and the pictures of a block as one, each below the one before it.
 pub fn scan(picture: &[i32], width: usize, height: usize, limit: i32) -> Found
-    requires { ⌜ (width ≤ 1024) × (height ≤ 1024) × (height * width ≤ length (now picture)) × Limit limit ⌝ }
+    requires { ⌜ (width ≤ 1024) × (height ≤ 16384) × (height * width ≤ length (now picture)) × Limit limit ⌝ }
     ensures { λ r. ⌜ r ≡ firstBad (natAbs limit) width height (now (picture .entry)) ⌝ }
 {
     let mut found = false;
@@ -90,7 +97,7 @@ pub fn scan(picture: &[i32], width: usize, height: usize, limit: i32) -> Found
 
 // Number 6, where nothing was refused before: the verdict of the scan.
 pub fn scanned(picture: &[i32], width: usize, height: usize, limit: i32) -> Verdict
-    requires { ⌜ (width ≤ 1024) × (height ≤ 1024) × (height * width ≤ length (now picture)) × Limit limit ⌝ }
+    requires { ⌜ (width ≤ 1024) × (height ≤ 16384) × (height * width ≤ length (now picture)) × Limit limit ⌝ }
     ensures { λ r. ⌜ r ≡ ofFound 6 (firstBad (natAbs limit) width height (now (picture .entry))) ⌝ }
 {
     let found = scan(picture, width, height, limit);

@@ -12,6 +12,8 @@ use Rattle.kernels.specs.Kernel.{Kernel}
 use Rattle.moves.specs.Border.{moveIn, grey}
 use Rattle.moves.specs.declared.Part.{Part}
 use Rattle.moves.specs.Row.{weighedPart, places, held}
+use Rattle.offsets.specs.declared.Moves.{Moves}
+use Rattle.offsets.specs.Moves.{Slight}
 
 -- place k of line y, moved by the d that `moves` gives, under a border
 abbrev pub movedAt : Border → Kernel → (ℕ → ℤ) → ℕ → List ℤ → ℕ → ℤ
@@ -33,14 +35,13 @@ weighedLine κ moves y = weighedPart κ (pos (fraction (moves y)))
 abbrev pub LinesWithin : ℕ → ℕ → ℕ → ℕ → ℕ → List ℤ → Type 0
 LinesWithin n lines along across M pic = (y k : ℕ) → y < lines → k < n → natAbs (getD pic (y * across + k * along) (pos 0)) ≤ M
 
--- what moving `lines` lines of n places by a·(y - c) asks: the sizes, the kernel, the ranges of the background, of the shear and of its centre, and
--- work places for four lines with what stands on either side of them
-pub record Movable (β : Border) (n lines kernel : ℕ) (a : ℤ) (c room : ℕ) : Type 0 where
+-- what moving `lines` lines of n places asks: the sizes, the kernel, the ranges of the background and of the moves, and work places for four lines with
+-- what stands on either side of them
+pub record Movable (β : Border) (n lines kernel : ℕ) (moves : Moves) (room : ℕ) : Type 0 where
   pub some : 1 ≤ n
   pub short : n ≤ 1024
   pub few : lines ≤ 1024
   pub known : kernel ≤ 2
-  pub slight : natAbs a ≤ 4096
-  pub central : c ≤ 1024
+  pub slight : Slight moves
   pub plain : natAbs (grey β) ≤ 294912
   pub roomy : 4 * places β n ≤ room

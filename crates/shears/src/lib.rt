@@ -1,5 +1,5 @@
 // One pass: every line of one direction moved in place, four at a time. Line y starts at place y·across of the picture, and its n places
-// are `along` apart: rows have along 1 and across W, columns along W and across 1. Line y moves by a·(y - c), in 4,096ths of a sample. Under
+// are `along` apart: rows have along 1 and across W, columns along W and across 1. How far each line moves, in 4,096ths of a sample, `moves` tells. Under
 // background each line is set between n background samples on each side, and a move is held to n samples: then nothing but background is left.
 ghost use mathlib.Core.Path.{_≡_};
 ghost use Prim.Native.Nat.{ℕ, _+_, _*_, _<_, _≤_};
@@ -10,22 +10,22 @@ ghost use Rattle.kernels.specs.Kernel.{kernelOf};
 ghost use Rattle.moves.specs.Border.{grey};
 ghost use Rattle.moves.specs.InPlace.{weighed-size, prepared};
 ghost use Rattle.moves.specs.Row.{places, startAt, held, Covers, loadedOf};
-ghost use Rattle.passes.specs.Picture.{shear};
-ghost use Rattle.passes.specs.Count.{interpolated};
+ghost use Rattle.offsets.specs.Moves.{moveOf, Slight};
 ghost use Rattle.grid.specs.Four.{laid, FourTreated, FourWithin, FourPartWithin};
 ghost use Rattle.shears.specs.Pass.{movedAt, linesMoved, heldMoves, weighedLine, LinesWithin, Movable};
 use moves::Part;
+use offsets::Moves;
 use settings::Border;
 
 // The place that output 0 of each of the lines y to y + 3 is read from.
-fn starts_at(border: Border, n: usize, a: i32, c: usize, y: usize) -> [usize; 4]
-    requires { ⌜ (1 ≤ n) × (n ≤ 1024) × (natAbs a ≤ 4096) × (c ≤ 1024) × (y + 4 ≤ 1024) ⌝ }
-    ensures { λ r. ⌜ ((i : ℕ) → i < 4 → (getD r i 0 ≡ startAt border n (held border n (shear a c (y + i)))) × (getD r i 0 < places border n)) ⌝ }
+fn starts_at(border: Border, n: usize, moves: Moves, y: usize) -> [usize; 4]
+    requires { ⌜ (1 ≤ n) × (n ≤ 1024) × Slight moves × (y + 4 ≤ 1024) ⌝ }
+    ensures { λ r. ⌜ ((i : ℕ) → i < 4 → (getD r i 0 ≡ startAt border n (held border n (moveOf moves (y + i)))) × (getD r i 0 < places border n)) ⌝ }
 {
-    let first = offsets::start_at(border, n, a, c, y);
-    let second = offsets::start_at(border, n, a, c, y + 1);
-    let third = offsets::start_at(border, n, a, c, y + 2);
-    let fourth = offsets::start_at(border, n, a, c, y + 3);
+    let first = offsets::start_at(border, n, moves, y);
+    let second = offsets::start_at(border, n, moves, y + 1);
+    let third = offsets::start_at(border, n, moves, y + 2);
+    let fourth = offsets::start_at(border, n, moves, y + 3);
     [first, second, third, fourth]
 }
 
@@ -71,19 +71,18 @@ fn weigh_four(
     n: usize,
     border: Border,
     kernel: u32,
-    a: i32,
-    c: usize,
+    moves: Moves,
     y: usize,
     part: Part,
 )
-    requires { ⌜ Movable border n (y + 4) kernel a c (length (now work)) ⌝ }
+    requires { ⌜ Movable border n (y + 4) kernel moves (length (now work)) ⌝ }
     requires { ⌜ (part .lo < part .hi) × (part .hi ≤ places border n) × FourPartWithin (places border n) part (weighed-size (kernelOf kernel)) (now work) ⌝ }
-    ensures { λ _. ⌜ FourTreated (places border n) (λ i. weighedLine (kernelOf kernel) (heldMoves border n (shear a c)) (y + i) part) (now (work .entry)) (now (work .exit)) ⌝ }
+    ensures { λ _. ⌜ FourTreated (places border n) (λ i. weighedLine (kernelOf kernel) (heldMoves border n (moveOf moves)) (y + i) part) (now (work .entry)) (now (work .exit)) ⌝ }
 {
     let m = rows::places_of(border, n);
     let mut i: usize = 0;
     while i < 4 {
-        let f = offsets::fraction_of(border, n, a, c, y + i);
+        let f = offsets::fraction_of(border, n, moves, y + i);
         let s = i * m;
         let e = s + m;
         rows::weigh_part(&mut work[s..e], kernel, f, part);
@@ -97,17 +96,16 @@ fn treat_four(
     n: usize,
     border: Border,
     kernel: u32,
-    a: i32,
-    c: usize,
+    moves: Moves,
     y: usize,
     part: Part,
 )
-    requires { ⌜ Movable border n (y + 4) kernel a c (length (now work)) ⌝ }
+    requires { ⌜ Movable border n (y + 4) kernel moves (length (now work)) ⌝ }
     requires { ⌜ (part .lo < part .hi) × (part .hi ≤ places border n) × FourPartWithin (places border n) (loadedOf (kernelOf kernel) (places border n) part) 294912 (now work) ⌝ }
-    ensures { λ _. ⌜ FourTreated (places border n) (λ i s. weighedLine (kernelOf kernel) (heldMoves border n (shear a c)) (y + i) part (prepared (kernelOf kernel) s)) (now (work .entry)) (now (work .exit)) ⌝ }
+    ensures { λ _. ⌜ FourTreated (places border n) (λ i s. weighedLine (kernelOf kernel) (heldMoves border n (moveOf moves)) (y + i) part (prepared (kernelOf kernel) s)) (now (work .entry)) (now (work .exit)) ⌝ }
 {
     prepare_four(work, rows::places_of(border, n), kernel);
-    weigh_four(work, n, border, kernel, a, c, y, part);
+    weigh_four(work, n, border, kernel, moves, y, part);
 }
 
 // Lines y to y + 3 moved.
@@ -120,21 +118,20 @@ fn move_four(
     across: usize,
     border: Border,
     kernel: u32,
-    a: i32,
-    c: usize,
+    moves: Moves,
 )
-    requires { ⌜ Movable border n (y + 4) kernel a c (length (now work)) ⌝ }
+    requires { ⌜ Movable border n (y + 4) kernel moves (length (now work)) ⌝ }
     requires { ⌜ Lines n (y + 4) along across (length (now picture)) ⌝ }
     requires { ⌜ ((i k : ℕ) → i < 4 → k < n → natAbs (getD (now picture) ((y + i) * across + k * along) (pos 0)) ≤ 294912) ⌝ }
-    ensures { λ _. ⌜ now (picture .exit) ≡ laid (y * across) along across n (λ i. movedAt border (kernelOf kernel) (shear a c) (y + i) (lineOf (y * across + i * across) along n (now (picture .entry)))) 4 (now (picture .entry)) ⌝ }
+    ensures { λ _. ⌜ now (picture .exit) ≡ laid (y * across) along across n (λ i. movedAt border (kernelOf kernel) (moveOf moves) (y + i) (lineOf (y * across + i * across) along n (now (picture .entry)))) 4 (now (picture .entry)) ⌝ }
 {
     let at = y * across;
     let m = rows::places_of(border, n);
-    let starts = starts_at(border, n, a, c, y);
+    let starts = starts_at(border, n, moves, y);
     let window = window_at(border, n, starts);
     let loaded = rows::loaded_of(kernel, m, window);
     grid::load_four(border, picture, at, along, across, work, n, loaded);
-    treat_four(work, n, border, kernel, a, c, y, window);
+    treat_four(work, n, border, kernel, moves, y, window);
     grid::store_four(picture, at, along, across, work, n, m, starts);
 }
 
@@ -148,30 +145,29 @@ fn move_line(
     across: usize,
     border: Border,
     kernel: u32,
-    a: i32,
-    c: usize,
+    moves: Moves,
 )
-    requires { ⌜ (1 ≤ n) × (n ≤ 1024) × (length (now row) ≡ places border n) × (kernel ≤ 2) × (natAbs a ≤ 4096) × (c ≤ 1024) × (y ≤ 1024) × (natAbs (grey border) ≤ 294912) ⌝ }
+    requires { ⌜ (1 ≤ n) × (n ≤ 1024) × (length (now row) ≡ places border n) × (kernel ≤ 2) × Slight moves × (y ≤ 1024) × (natAbs (grey border) ≤ 294912) ⌝ }
     requires { ⌜ ((k : ℕ) → k < n → y * across + k * along < length (now picture)) ⌝ }
     requires { ⌜ ((k : ℕ) → k < n → natAbs (getD (now picture) (y * across + k * along) (pos 0)) ≤ 294912) ⌝ }
-    ensures { λ _. ⌜ now (picture .exit) ≡ put (y * across) along (movedAt border (kernelOf kernel) (shear a c) y (lineOf (y * across) along n (now (picture .entry)))) n (now (picture .entry)) ⌝ }
+    ensures { λ _. ⌜ now (picture .exit) ≡ put (y * across) along (movedAt border (kernelOf kernel) (moveOf moves) y (lineOf (y * across) along n (now (picture .entry)))) n (now (picture .entry)) ⌝ }
 {
     let at = y * across;
-    let start = offsets::start_at(border, n, a, c, y);
+    let start = offsets::start_at(border, n, moves, y);
     let window = rows::window_of(border, n, start);
     let loaded = rows::loaded_of(kernel, row.len(), window);
     rows::set_in(border, picture, at, along, row, n, loaded);
     rows::treat(
         row,
         kernel,
-        offsets::fraction_of(border, n, a, c, y),
+        offsets::fraction_of(border, n, moves, y),
         window,
     );
     lists::store_line(picture, at, along, row, start, n);
 }
 
-// The first lines moved, four at a time, those that are left over singly.
-fn move_lines(
+// Every line of one direction moved, four at a time, those that are left over singly.
+pub fn pass(
     picture: &mut [i32],
     work: &mut [i32],
     n: usize,
@@ -180,19 +176,18 @@ fn move_lines(
     across: usize,
     border: Border,
     kernel: u32,
-    a: i32,
-    c: usize,
+    moves: Moves,
 )
-    requires { ⌜ Movable border n lines kernel a c (length (now work)) ⌝ }
+    requires { ⌜ Movable border n lines kernel moves (length (now work)) ⌝ }
     requires { ⌜ Lines n lines along across (length (now picture)) ⌝ }
     requires { ⌜ LinesWithin n lines along across 294912 (now picture) ⌝ }
-    ensures { λ _. ⌜ now (picture .exit) ≡ linesMoved border (kernelOf kernel) (shear a c) n along across lines (now (picture .entry)) ⌝ }
+    ensures { λ _. ⌜ now (picture .exit) ≡ linesMoved border (kernelOf kernel) (moveOf moves) n along across lines (now (picture .entry)) ⌝ }
 {
     let m = rows::places_of(border, n);
     let mut y: usize = 0;
     while y < lines {
         if y + 4 <= lines {
-            move_four(picture, work, n, y, along, across, border, kernel, a, c);
+            move_four(picture, work, n, y, along, across, border, kernel, moves);
             y += 4;
         } else {
             move_line(
@@ -204,33 +199,9 @@ fn move_lines(
                 across,
                 border,
                 kernel,
-                a,
-                c,
+                moves,
             );
             y += 1;
         }
     }
-}
-
-// Every line of one direction moved. Answers how many were interpolated.
-pub fn pass(
-    picture: &mut [i32],
-    work: &mut [i32],
-    n: usize,
-    lines: usize,
-    along: usize,
-    across: usize,
-    border: Border,
-    kernel: u32,
-    a: i32,
-    c: usize,
-) -> u32
-    requires { ⌜ Movable border n lines kernel a c (length (now work)) ⌝ }
-    requires { ⌜ Lines n lines along across (length (now picture)) ⌝ }
-    requires { ⌜ LinesWithin n lines along across 294912 (now picture) ⌝ }
-    ensures { λ r. ⌜ now (picture .exit) ≡ linesMoved border (kernelOf kernel) (shear a c) n along across lines (now (picture .entry)) ⌝ }
-    ensures { λ r. ⌜ (r ≡ interpolated border n (shear a c) lines) × (r ≤ 1024) ⌝ }
-{
-    move_lines(picture, work, n, lines, along, across, border, kernel, a, c);
-    offsets::count_lines(border, n, a, c, lines)
 }

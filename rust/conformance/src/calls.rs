@@ -44,7 +44,7 @@ impl Outcome {
     /// Holds the buffers and the extremes to the documents: untouched and 0 where refused; else `places` of the
     /// result and `work_places` of work written, work with 0, and no later place, and the extremes those of
     /// the samples written.
-    fn held_to_the_documents(self, places: usize, work_places: usize) -> Outcome {
+    pub(crate) fn held_to_the_documents(self, places: usize, work_places: usize) -> Outcome {
         if self.answer.number != 0 {
             assert!(untouched_from(0, &self.result), "a refused call wrote to its result");
             assert!(untouched_from(0, &self.work), "a refused call wrote to its work");

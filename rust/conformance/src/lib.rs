@@ -1,6 +1,7 @@
 //! What the tests share: the proved library and the second implementation behind one trait, a generator of
 //! numbers, and the vector files.
 
+pub mod blocks;
 pub mod c;
 pub mod calls;
 pub mod declarations;
@@ -13,16 +14,19 @@ pub mod numbers;
 mod second;
 pub mod tables;
 
+use blocks::BlockCall;
 use calls::{ExplainCall, LineCall};
 #[cfg(feature = "library")]
 pub use library::{raw_setting, Library};
 use reference::second::{Border, Forecast, Parts, Setting, Ticket};
 pub use second::Second;
 
-/// What the document says of an answer: number, row, column and count.
+/// What the document says of an answer: number, depth, row, column and count.
 #[derive(Clone, Copy, Debug, PartialEq, Eq)]
 pub struct Answer {
     pub number: u32,
+    /// 0 for every call but a block's.
+    pub depth: usize,
     pub row: usize,
     pub column: usize,
     pub count: u32,
@@ -39,9 +43,14 @@ impl Answer {
         Answer::of(number, 0, 0, 0)
     }
 
-    /// An answer from its four figures.
+    /// An answer from its figures, without a depth.
     pub fn of(number: u32, row: usize, column: usize, count: u32) -> Answer {
-        Answer { number, row, column, count }
+        Answer { number, depth: 0, row, column, count }
+    }
+
+    /// The answer of a block whose first bad sample stands at a depth, a row and a column.
+    pub fn bad_sample(depth: usize, row: usize, column: usize) -> Answer {
+        Answer { depth, ..Answer::of(6, row, column, 0) }
     }
 }
 
@@ -96,8 +105,12 @@ pub trait Implementation {
     fn move_line(&self, call: &LineCall, result: &mut [i32], work: &mut [i32]) -> (Answer, Extremes);
     /// The answer, whose count is 0, and the parts.
     fn explain(&self, call: &ExplainCall, work: &mut [i32]) -> (Answer, Parts);
+    /// The answer, which under number 6 names a depth too.
+    fn straighten_block(&self, call: &BlockCall, result: &mut [i32], work: &mut [i32]) -> (Answer, Extremes);
     fn work_places(&self, size: (usize, usize)) -> usize;
     fn line_work_places(&self, n: usize) -> usize;
+    /// Of a width, height and depth, and a plane.
+    fn block_work_places(&self, sides: [usize; 3], plane: u32) -> usize;
     fn with_kernel(&self, setting: Setting, kernel: u32) -> Setting;
     fn with_centre(&self, setting: Setting, cx: usize, cy: usize) -> Setting;
     fn with_shears(&self, setting: Setting, a: i32, b: i32) -> Setting;

@@ -1,5 +1,6 @@
 //! The proved library as one of the implementations.
 
+use crate::blocks::BlockCall;
 use crate::calls::{ExplainCall, LineCall};
 use crate::{Answer, Extremes, Implementation, LineUnderPoints};
 use reference::second::{Border, Forecast, Parts, Setting, Ticket};
@@ -106,12 +107,24 @@ impl Implementation for Library {
         (Answer::of(number, row, column, 0), Parts { places, weights, values, divisor, quotient })
     }
 
+    fn straighten_block(&self, call: &BlockCall, result: &mut [i32], work: &mut [i32]) -> (Answer, Extremes) {
+        let &BlockCall { sides: [width, height, depth], plane, setting, ref block, .. } = call;
+        let setting = raw_setting(setting);
+        let told = raw::straighten_block(width, height, depth, plane, setting, block, result, work);
+        let raw::BlockAnswer { number, depth, row, column, count, smallest, largest } = told;
+        (Answer { depth, ..Answer::of(number, row, column, count) }, Extremes { smallest, largest })
+    }
+
     fn work_places(&self, (width, height): (usize, usize)) -> usize {
         raw::work_places(width, height)
     }
 
     fn line_work_places(&self, n: usize) -> usize {
         raw::line_work_places(n)
+    }
+
+    fn block_work_places(&self, [width, height, depth]: [usize; 3], plane: u32) -> usize {
+        raw::block_work_places(width, height, depth, plane)
     }
 
     fn with_kernel(&self, setting: Setting, kernel: u32) -> Setting {

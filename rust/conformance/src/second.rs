@@ -1,5 +1,6 @@
 //! The second implementation as one of the implementations.
 
+use crate::blocks::BlockCall;
 use crate::calls::{ExplainCall, LineCall};
 use crate::{Answer, Extremes, Implementation, LineUnderPoints};
 use reference::second::{self, Border, Forecast, Parts, Refused, Setting, Ticket, Told};
@@ -11,7 +12,7 @@ pub struct Second;
 fn answer(outcome: Result<u32, Refused>) -> Answer {
     match outcome {
         Ok(count) => Answer::accepted(count),
-        Err(refused) => Answer::of(refused.number, refused.row, refused.column, 0),
+        Err(Refused { number, depth, row, column }) => Answer { depth, ..Answer::of(number, row, column, 0) },
     }
 }
 
@@ -81,12 +82,21 @@ impl Implementation for Second {
         (answer(outcome.map(|_| 0)), outcome.unwrap_or_default())
     }
 
+    fn straighten_block(&self, call: &BlockCall, result: &mut [i32], work: &mut [i32]) -> (Answer, Extremes) {
+        let &BlockCall { sides, plane, setting, ref block, .. } = call;
+        moved(second::straighten_block(sides, plane, setting, block, result, work))
+    }
+
     fn work_places(&self, (width, height): (usize, usize)) -> usize {
         second::work_places(width, height)
     }
 
     fn line_work_places(&self, n: usize) -> usize {
         second::line_work_places(n)
+    }
+
+    fn block_work_places(&self, sides: [usize; 3], plane: u32) -> usize {
+        second::block_work_places(sides, plane)
     }
 
     fn with_kernel(&self, setting: Setting, kernel: u32) -> Setting {

@@ -32,6 +32,8 @@ pub struct Number {
     pub c: String,
     /// Its variant in Rust.
     pub rust: String,
+    /// The variant of a block, where it is one of its own, with a depth beside its row and column.
+    pub in_a_block: Option<String>,
     /// Whether it comes with a row and a column.
     pub placed: bool,
     /// What it says.
@@ -41,13 +43,15 @@ pub struct Number {
 /// The refusal numbers.
 pub fn numbers() -> Vec<Number> {
     let code = |cell: &str| cell.trim_matches('`').to_string();
+    let variants = |cell: &str| in_backticks(cell).into_iter();
     let rows = table("docs/REFUSALS.md", "Number");
     rows.iter()
         .map(|row| Number {
             number: row[0].parse().expect("a number"),
             c: code(&row[1]),
-            rust: code(&row[2]),
-            placed: row[3] == "row and column",
+            rust: variants(&row[2]).next().expect("a variant"),
+            in_a_block: variants(&row[2]).nth(1),
+            placed: row[3].starts_with("row and column"),
             words: row[4].clone(),
         })
         .collect()

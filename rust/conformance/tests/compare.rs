@@ -1,9 +1,10 @@
 //! The proved library against the second implementation, call by call.
 #![cfg(feature = "library")]
 
+use conformance::blocks::BlockCall;
 use conformance::calls::{ExplainCall, LineCall, Outcome, PictureCall, BAD_BACKGROUNDS};
 use conformance::numbers::Numbers;
-use conformance::{Implementation, Library, Second};
+use conformance::{Answer, Implementation, Library, Second};
 use reference::second::{Border, Setting};
 
 /// Runs a picture call on both, and answers the outcome that they share.
@@ -99,6 +100,51 @@ fn hostile_picture_calls() {
         [0, 1, 2, 3, 4, 5, 6, 12].iter().all(|&number| seen[number] > 150),
         "each number is to come up: {seen:?}"
     );
+}
+
+/// Runs a block call on both, and answers the outcome that they share.
+fn agreed_block(call: &BlockCall) -> Outcome {
+    let (outcome, second) = (call.run(&Library), call.run(&Second));
+    assert_eq!(outcome.answer, second.answer, "{call:?}");
+    assert!(outcome == second, "the answers agree, and what is left does not: {call:?}");
+    outcome
+}
+
+#[test]
+fn hostile_block_calls() {
+    let (mut numbers, mut seen) = (Numbers::seeded(34), [0; 18]);
+    for _ in 0..12_000 {
+        seen[agreed_block(&BlockCall::hostile(&mut numbers)).answer.number as usize] += 1;
+    }
+    let judged = [0, 1, 2, 3, 4, 5, 6, 12, 17];
+    assert!(judged.iter().all(|&number| seen[number] > 150), "each number is to come up: {seen:?}");
+}
+
+#[test]
+fn blocks_of_every_size_from_1_to_4_and_of_long_sides() {
+    let mut numbers = Numbers::seeded(35);
+    let small = (0..64).map(|i| [1 + i % 4, 1 + i / 4 % 4, 1 + i / 16]);
+    let long = [[128, 3, 2], [2, 128, 3], [3, 2, 128], [127, 9, 128], [33, 31, 17]];
+    for sides in small.chain(long) {
+        for (plane, kernel) in (0..9).map(|turn| (turn % 3, turn / 3)) {
+            let call = BlockCall::good(&mut numbers, sides, plane, kernel);
+            assert_eq!(agreed_block(&call).answer.number, 0, "{call:?}");
+        }
+    }
+    for plane in 0..3 {
+        let call = BlockCall::good(&mut numbers, [128; 3], plane, plane);
+        assert_eq!(agreed_block(&call).answer.number, 0, "{call:?}");
+    }
+}
+
+#[test]
+fn the_last_sample_of_the_largest_block_is_judged() {
+    for plane in 0..3 {
+        let mut call = BlockCall::fitting([128; 3], plane, Setting::default(), vec![-32_767; 1 << 21]);
+        assert_eq!(call.run(&Library).answer, Answer::accepted(0));
+        call.block[(1 << 21) - 1] = -32_768;
+        assert_eq!(call.run(&Library).answer, Answer::bad_sample(127, 127, 127));
+    }
 }
 
 #[test]

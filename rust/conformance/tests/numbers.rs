@@ -2,7 +2,7 @@
 #![cfg(feature = "library")]
 
 use conformance::c::printed;
-use conformance::tables::{calls, in_backticks, numbers, order, table};
+use conformance::tables::{calls, in_backticks, numbers, order, table, Number};
 use straightener::Refusal;
 
 #[test]
@@ -17,14 +17,28 @@ fn in_rust() {
         assert_eq!(refusal.number(), row.number);
         assert_eq!(format!("{refusal:?}"), format!("{}{fields}", row.rust));
         assert_eq!(refusal.to_string(), format!("{}{place}", row.words));
+        let of_a_block = Refusal::from_block_number(row.number, 2, 3, 5).expect("a refusal");
+        match &row.in_a_block {
+            None => assert_eq!(of_a_block, refusal),
+            Some(name) => assert_named_with_depth(of_a_block, name, row),
+        }
     }
+    let with_a_depth = table.iter().filter(|row| row.in_a_block.is_some()).map(|row| row.number);
+    assert_eq!(with_a_depth.collect::<Vec<_>>(), [6]);
     for number in (1..1_000).chain([u32::MAX]).filter(|n| table.iter().all(|row| row.number != *n)) {
         let refusal = Refusal::from_number(number, 3, 5).expect("a refusal");
         assert!(matches!(refusal, Refusal::Unknown { row: 3, column: 5, .. }), "{number}");
         assert_eq!(refusal.number(), number);
         assert!(refusal.to_string().contains(&format!("number {number},")));
     }
-    assert_eq!(Refusal::from_number(0, 3, 5), None);
+    assert_eq!((Refusal::from_number(0, 3, 5), Refusal::from_block_number(0, 2, 3, 5)), (None, None));
+}
+
+/// Holds the refusal of a block at depth 2, row 3 and column 5 to its name and to its number's words.
+fn assert_named_with_depth(refusal: Refusal, name: &str, row: &Number) {
+    assert_eq!(refusal.number(), row.number);
+    assert_eq!(format!("{refusal:?}"), format!("{name} {{ depth: 2, row: 3, column: 5 }}"));
+    assert_eq!(refusal.to_string(), format!("{}; depth 2, row 3, column 5", row.words));
 }
 
 #[test]

@@ -8,7 +8,8 @@ use conformance::tables::{order, table};
 use std::fs;
 use std::process::Command;
 use straightener::{
-    ask, commit, explain, forecast, move_line, Border, Kernel, Reading, Refusal, Setting, BLACK, WHITE,
+    ask, commit, explain, forecast, move_line, raw, straightened_block, Border, Kernel, Plane, Reading,
+    Refusal, Setting, BLACK, WHITE,
 };
 
 /// The programs in a language that a text shows.
@@ -26,7 +27,8 @@ fn line<'a>(text: &'a str, begin: &str) -> &'a str {
 fn the_c_programs_by_their_link_lines() {
     let (readme, folder) = (read("README.md"), Temporary::new("readme-c"));
     done(&mut make("install", &folder.path("")));
-    let (names, shown) = (["program", "points", "ask", "forecast", "explain"], programs(&readme, "c"));
+    let names = ["program", "points", "ask", "forecast", "block", "explain"];
+    let shown = programs(&readme, "c");
     assert_eq!(shown.len(), names.len(), "a program of README has no name here");
     for (name, program) in names.into_iter().zip(shown) {
         fs::write(folder.path(&format!("{name}.c")), program).expect("the program can be written");
@@ -164,6 +166,27 @@ fn the_bounds_of_forecasts() {
                 forecast(3, 2, Setting::new().with_kernel(kernel), number(&row[0])).expect("a forecast");
             assert_eq!(told.bound as u32, number(cell), "{kernel:?} of {}", row[0]);
         }
+    }
+}
+
+/// README's columns and rows of each plane are those that the centre is judged against, by the plane's number.
+#[test]
+fn the_planes_of_a_block() {
+    let (rows, sides) = (table("README.md", "Plane"), [("width", 2), ("height", 3), ("depth", 5)]);
+    let planes = [Plane::AcrossAndDown, Plane::AcrossAndDepth, Plane::DownAndDepth];
+    assert_eq!(rows.len(), planes.len());
+    let side = |cell: &str| sides.iter().find(|(name, _)| *name == cell).expect("a side of the block").1;
+    for (number, (row, plane)) in (0..).zip(rows.iter().zip(planes)) {
+        let (columns, rows) = (side(&row[1]), side(&row[2]));
+        let centred = |cx, cy| {
+            let setting = Setting::new().with_centre(cx, cy);
+            straightened_block(2, 3, 5, plane, setting, &[0; 30]).map(|(result, _)| result.len())
+        };
+        assert_eq!(centred(columns - 1, rows - 1), Ok(30), "{plane:?}");
+        assert_eq!(centred(columns, 0), Err(Refusal::Centre), "{plane:?}");
+        assert_eq!(centred(0, rows), Err(Refusal::Centre), "{plane:?}");
+        assert!(row[0].starts_with(&format!("{number}, ")), "{plane:?}");
+        assert_eq!(raw::block_work_places(2, 3, 5, number), 12 * columns.max(rows), "{plane:?}");
     }
 }
 

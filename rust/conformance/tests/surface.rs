@@ -4,7 +4,7 @@
 use conformance::c::printed;
 use conformance::declarations;
 use conformance::files::read;
-use conformance::tables::{calls, numbers, order};
+use conformance::tables::{calls, numbers, order, Number};
 use std::mem::{offset_of, size_of};
 use straightener::raw;
 
@@ -27,8 +27,8 @@ fn declared() -> Vec<(String, String)> {
 }
 
 /// The files of the safe layer for Rust.
-fn safe_files() -> [String; 6] {
-    ["calls", "explanation", "forecast", "readings", "setting", "tickets"]
+fn safe_files() -> [String; 7] {
+    ["block", "calls", "explanation", "forecast", "readings", "setting", "tickets"]
         .map(|file| format!("rust/straightener/src/{file}.rs"))
 }
 
@@ -81,20 +81,21 @@ fn orders_in_the_header() {
 fn refusals_named(text: &str) -> Vec<u32> {
     let names = text.split("[`Refusal::").skip(1).filter_map(|rest| rest.split('`').next());
     let known = numbers();
-    names.map(|name| known.iter().find(|row| row.rust == name).expect("a refusal").number).collect()
+    let is_named = |row: &Number, name: &str| row.rust == name || row.in_a_block.as_deref() == Some(name);
+    names.map(|name| known.iter().find(|row| is_named(row, name)).expect("a refusal").number).collect()
 }
 
 /// Calls whose buffers are their own, so that none of them is too short.
 const OWN_BUFFERS: [&str; 2] = ["answer_line", "explain"];
 
-/// What a safe call is said to be refused with, in the order of its numbers; 5 is left out, since no `Kernel` has a
-/// bad number, and 2 where the buffers are the call's own.
+/// What a safe call is said to be refused with, in the order of its numbers; 5 and 17 are left out, since no `Kernel`
+/// and no `Plane` has a bad number, and 2 where the buffers are the call's own.
 #[test]
 fn orders_in_the_documentation_for_rust() {
     for call in calls().iter().filter(|call| !call.c.is_empty()) {
         for name in &call.rust {
-            let meets =
-                |number: &u32| *number != 5 && (*number != 2 || !OWN_BUFFERS.contains(&name.as_str()));
+            let owns_buffers = OWN_BUFFERS.contains(&name.as_str());
+            let meets = |number: &u32| ![5, 17].contains(number) && (*number != 2 || !owns_buffers);
             let expected: Vec<u32> = call.order.iter().copied().filter(meets).collect();
             if expected.is_empty() {
                 continue;
@@ -223,6 +224,7 @@ fn structs_are_laid_out_alike() {
     let expected = [
         layout!(Setting: kernel cx cy a b border background),
         layout!(Answer: number row column count smallest largest),
+        layout!(BlockAnswer: number depth row column count smallest largest),
         layout!(Ticket: width height setting count),
         layout!(Asked: number row column ticket),
         layout!(ForecastAnswer: number row column work count bound),

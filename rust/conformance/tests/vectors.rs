@@ -1,5 +1,6 @@
 //! Both implementations held to the vectors of an independent model.
 
+use conformance::blocks::BlockCall;
 use conformance::calls::{untouched_from, ExplainCall, LineCall, Outcome, PictureCall};
 use conformance::files::{border, cases, few, float_bits, fnv, list, number, numbers, value, vectors};
 use conformance::{for_both_implementations, Answer, Extremes, Implementation};
@@ -17,6 +18,8 @@ for_both_implementations!(
     pictures_on_background,
     picture_refusals,
     pictures_in_both_borders,
+    blocks,
+    waterfalls,
     tickets,
     asked_and_committed,
     forecasts,
@@ -135,7 +138,12 @@ fn assert_recorded(outcome: &Outcome, places: usize, words: &[String]) {
     assert_eq!(outcome.answer, Answer::of(answer.0, answer.1, answer.2, answer.3));
     let extreme = |key: &str| number(value(words, key));
     assert_eq!(outcome.extremes, Extremes { smallest: extreme("smallest"), largest: extreme("largest") });
-    let written = if answer.0 == 0 { places } else { 0 };
+    assert_recorded_buffers(outcome, places, words);
+}
+
+/// Holds the buffers of an outcome to `result= work_zero=`, as [`assert_recorded`] does.
+fn assert_recorded_buffers(outcome: &Outcome, places: usize, words: &[String]) {
+    let written = if outcome.answer.number == 0 { places } else { 0 };
     assert!(untouched_from(written, &outcome.result));
     let mut result = outcome.result.clone();
     result[written..].fill(-7);
@@ -144,7 +152,7 @@ fn assert_recorded(outcome: &Outcome, places: usize, words: &[String]) {
         None => assert_eq!(result, list(value(words, "result"))),
     }
     let zeros = outcome.work.iter().take_while(|&&place| place == 0).count();
-    assert_eq!(zeros, figure("work_zero"));
+    assert_eq!(zeros, number::<usize>(value(words, "work_zero")));
 }
 
 /// The line call of `key=value` words.
@@ -286,6 +294,40 @@ fn pictures_in_both_borders(implementation: &dyn Implementation) {
     for (input, answer) in vectors("border_pictures.txt", 262) {
         let call = named_picture(&input);
         assert_recorded(&call.run(implementation), call.size.0.wrapping_mul(call.size.1), &answer);
+    }
+}
+
+fn blocks(implementation: &dyn Implementation) {
+    for (input, answer) in vectors("block.txt", 90) {
+        let sides = [0, 1, 2].map(|k| number(&input[k]));
+        let setting = setting(&input[4..9]).with_border(border(&input[9]));
+        let call = BlockCall::fitting(sides, number(&input[3]), setting, numbers(&input[10..]));
+        let outcome = call.run(implementation);
+        let [code, depth, row, column, count] = [0, 1, 2, 3, 4].map(|k| number::<usize>(&answer[k]));
+        let expected = Answer { depth, ..Answer::of(code as u32, row, column, count as u32) };
+        assert_eq!(outcome.answer, expected, "{input:?}");
+        if code == 0 {
+            assert_eq!(outcome.result, numbers::<i32>(&answer[5..]), "{input:?}");
+        }
+    }
+}
+
+fn waterfalls(implementation: &dyn Implementation) {
+    for (input, answer) in vectors("waterfall.txt", 235) {
+        let call = BlockCall {
+            sides: ["W", "H", "depth"].map(|key| number(value(&input, key))),
+            plane: number(value(&input, "plane")),
+            setting: named_setting(&input),
+            block: list(value(&input, "block")),
+            result_length: number(value(&input, "result_len")),
+            work_length: number(value(&input, "work_len")),
+        };
+        let outcome = call.run(implementation);
+        let figure = |key: &str| number::<usize>(value(&answer, key));
+        let place =
+            Answer::of(figure("number") as u32, figure("row"), figure("column"), figure("count") as u32);
+        assert_eq!(outcome.answer, Answer { depth: figure("depth"), ..place }, "{input:?}");
+        assert_recorded_buffers(&outcome, call.takes().0, &answer);
     }
 }
 

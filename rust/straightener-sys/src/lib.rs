@@ -10,7 +10,7 @@
 
 /// The call was accepted.
 pub const STRAIGHTENER_ACCEPTED: u32 = 0;
-/// Refusal of a width, height or line length.
+/// Refusal of a width, height, depth or line length.
 pub const STRAIGHTENER_REFUSED_SIZE: u32 = 1;
 /// Refusal of a buffer.
 pub const STRAIGHTENER_REFUSED_BUFFER: u32 = 2;
@@ -20,7 +20,7 @@ pub const STRAIGHTENER_REFUSED_CENTRE: u32 = 3;
 pub const STRAIGHTENER_REFUSED_SHEAR: u32 = 4;
 /// Refusal of a kernel.
 pub const STRAIGHTENER_REFUSED_KERNEL: u32 = 5;
-/// Refusal of a sample beyond its range, by its row and column.
+/// Refusal of a sample beyond its range, by its row and column, and in a block by its depth too.
 pub const STRAIGHTENER_REFUSED_SAMPLE: u32 = 6;
 /// Refusal of a point.
 pub const STRAIGHTENER_REFUSED_POINT: u32 = 7;
@@ -34,6 +34,8 @@ pub const STRAIGHTENER_REFUSED_BACKGROUND: u32 = 12;
 pub const STRAIGHTENER_REFUSED_TICKET: u32 = 14;
 /// Refusal of a line by a sample below the threshold, by its row and column.
 pub const STRAIGHTENER_REFUSED_THRESHOLD: u32 = 15;
+/// Refusal of a plane.
+pub const STRAIGHTENER_REFUSED_PLANE: u32 = 17;
 
 /// The kernel of the two nearest samples.
 pub const STRAIGHTENER_LINEAR: u32 = 0;
@@ -46,6 +48,13 @@ pub const STRAIGHTENER_SPLINE: u32 = 2;
 pub const STRAIGHTENER_WRAPPED: u32 = 0;
 /// Beyond its ends a line goes on with background.
 pub const STRAIGHTENER_ON_BACKGROUND: u32 = 1;
+
+/// Slices of a block by depth: columns across, rows down.
+pub const STRAIGHTENER_ACROSS_AND_DOWN: u32 = 0;
+/// Slices of a block by row: columns across, rows in depth.
+pub const STRAIGHTENER_ACROSS_AND_DEPTH: u32 = 1;
+/// Slices of a block by column: columns down, rows in depth.
+pub const STRAIGHTENER_DOWN_AND_DEPTH: u32 = 2;
 
 /// A reading from black to white.
 pub const STRAIGHTENER_LEVEL: u32 = 0;
@@ -97,6 +106,26 @@ pub struct straightener_answer {
     /// The smallest sample of the moved line or of the straightened picture, else 0.
     pub smallest: i32,
     /// The largest sample of the moved line or of the straightened picture, else 0.
+    pub largest: i32,
+}
+
+/// What straightening a block answers.
+#[repr(C)]
+#[derive(Clone, Copy, Debug, PartialEq, Eq)]
+pub struct straightener_block_answer {
+    /// 0, or the refusal number.
+    pub number: u32,
+    /// Depth of the first sample beyond the range under number 6, else 0.
+    pub depth: usize,
+    /// Row of that sample, else 0.
+    pub row: usize,
+    /// Column of that sample, else 0.
+    pub column: usize,
+    /// Lines interpolated, over all slices.
+    pub count: u32,
+    /// The smallest sample of the straightened block, 0 where refused.
+    pub smallest: i32,
+    /// The largest sample of the straightened block, 0 where refused.
     pub largest: i32,
 }
 
@@ -287,6 +316,14 @@ extern "C" {
         width: usize, height: usize, setting: straightener_setting, largest: u32,
     ) -> straightener_forecast_answer;
 
+    /// Straightens every slice of a block in one plane.
+    pub fn straightener_straighten_block(
+        width: usize, height: usize, depth: usize, plane: u32, setting: straightener_setting,
+        block: *const i32, block_len: usize,
+        result: *mut i32, result_len: usize,
+        work: *mut i32, work_len: usize,
+    ) -> straightener_block_answer;
+
     /// Moves one line.
     pub fn straightener_move_line(
         n: usize, kernel: u32, d: i32, border: u32, background: i32,
@@ -304,6 +341,9 @@ extern "C" {
 
     /// The places of work that a picture takes; 0 for a size that is refused.
     pub fn straightener_work_places(width: usize, height: usize) -> usize;
+
+    /// The places of work that a block takes; 0 for a side or a plane that is refused.
+    pub fn straightener_block_work_places(width: usize, height: usize, depth: usize, plane: u32) -> usize;
 
     /// The places of work that a line takes; 0 for a length that is refused.
     pub fn straightener_line_work_places(n: usize) -> usize;

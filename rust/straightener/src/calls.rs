@@ -4,12 +4,13 @@ use crate::raw;
 use crate::refusal::{accepted, Refusal};
 use crate::setting::{Border, Kernel, Setting};
 
-/// What straightening tells beside the picture.
+/// What straightening tells beside the picture or the block.
 #[derive(Clone, Copy, Debug, PartialEq, Eq, Hash)]
 #[non_exhaustive]
 pub struct Straightened {
     /// The number of lines interpolated, those that neither moved by whole samples nor became all
-    /// background; a row that is interpolated in both its passes counts twice.
+    /// background; a row that is interpolated in both its passes counts twice. Of a block it is the sum over
+    /// its slices.
     pub count: u32,
     /// The smallest sample of the result.
     pub smallest: i32,

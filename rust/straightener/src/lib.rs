@@ -4,7 +4,8 @@
 //! result is the one that the written rules define, or refused under a number, as a [`Refusal`], with
 //! no buffer touched. Every sample of a straightened picture lies within 3/2 units (linear), 2 units
 //! (Keys) or 10 units (cubic spline) of the same three shears computed in exact fractions, with wrapped
-//! edges and on background; 128 units are one grey.
+//! edges and on background; 128 units are one grey. A block of pictures is straightened slice by slice, each as a
+//! picture of its own.
 //!
 //! # A picture straightened
 //!
@@ -30,10 +31,12 @@
 //!
 //! # Parts
 //!
-//! [`straighten`], [`ask`], [`commit`], [`forecast`], [`move_line`], [`explain`], every change of a [`Setting`], [`level`],
-//! [`level_checked`], [`sine`], the readings and [`answer_line`] call the proved library, which is x86-64 Linux code. [`raw`]
-//! is its C interface with slices. The package's own thin layer over the calls is tested and not proved.
+//! [`straighten`], [`ask`], [`commit`], [`forecast`], [`straighten_block`], [`move_line`], [`explain`], every change of a
+//! [`Setting`], [`level`], [`level_checked`], [`sine`], the readings and [`answer_line`] call the proved library, which is
+//! x86-64 Linux code. [`raw`] is its C interface with slices. The package's own thin layer over the calls is tested and
+//! not proved.
 
+mod block;
 mod calls;
 mod explanation;
 mod forecast;
@@ -43,6 +46,7 @@ mod refusal;
 mod setting;
 mod tickets;
 
+pub use block::{block_work_places, straighten_block, straightened_block, Plane};
 pub use calls::{
     answer_line, level, level_checked, line_work_places, move_line, sine, straighten, straightened,
     work_places, Moved, Straightened,

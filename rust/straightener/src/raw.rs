@@ -7,12 +7,12 @@
 use straightener_sys as sys;
 
 pub use straightener_sys::{
-    straightener_answer as Answer, straightener_asked as Asked, straightener_change as Change,
-    straightener_checked_step as CheckedStep, straightener_explanation_answer as ExplanationAnswer,
-    straightener_forecast_answer as ForecastAnswer, straightener_line_answer as LineAnswer,
-    straightener_reading_answer as ReadingAnswer, straightener_setting as Setting, straightener_step as Step,
-    straightener_summary_answer as SummaryAnswer, straightener_term as Term, straightener_ticket as Ticket,
-    STRAIGHTENER_LONGEST_ANSWER as LONGEST_ANSWER,
+    straightener_answer as Answer, straightener_asked as Asked, straightener_block_answer as BlockAnswer,
+    straightener_change as Change, straightener_checked_step as CheckedStep,
+    straightener_explanation_answer as ExplanationAnswer, straightener_forecast_answer as ForecastAnswer,
+    straightener_line_answer as LineAnswer, straightener_reading_answer as ReadingAnswer,
+    straightener_setting as Setting, straightener_step as Step, straightener_summary_answer as SummaryAnswer,
+    straightener_term as Term, straightener_ticket as Ticket, STRAIGHTENER_LONGEST_ANSWER as LONGEST_ANSWER,
 };
 
 // Each call below hands over slices whole: they are valid for their lengths and, being borrowed, do not
@@ -109,6 +109,29 @@ pub fn forecast(width: usize, height: usize, setting: Setting, largest: u32) -> 
     unsafe { sys::straightener_forecast(width, height, setting, largest) }
 }
 
+/// Straightens every slice of a block in one plane.
+#[allow(clippy::too_many_arguments)]
+pub fn straighten_block(
+    width: usize,
+    height: usize,
+    depth: usize,
+    plane: u32,
+    setting: Setting,
+    block: &[i32],
+    result: &mut [i32],
+    work: &mut [i32],
+) -> BlockAnswer {
+    let (block, block_len) = (block.as_ptr(), block.len());
+    let (result, result_len) = (result.as_mut_ptr(), result.len());
+    let (work, work_len) = (work.as_mut_ptr(), work.len());
+    // SAFETY: borrowed slices, see above.
+    unsafe {
+        sys::straightener_straighten_block(
+            width, height, depth, plane, setting, block, block_len, result, result_len, work, work_len,
+        )
+    }
+}
+
 /// Moves one line.
 #[allow(clippy::too_many_arguments)]
 pub fn move_line(
@@ -144,6 +167,12 @@ pub fn explain(n: usize, kernel: u32, d: i32, k: usize, line: &[i32], work: &mut
 pub fn work_places(width: usize, height: usize) -> usize {
     // SAFETY: plain values.
     unsafe { sys::straightener_work_places(width, height) }
+}
+
+/// The places of work that a block takes; 0 for a side or a plane that is refused.
+pub fn block_work_places(width: usize, height: usize, depth: usize, plane: u32) -> usize {
+    // SAFETY: plain values.
+    unsafe { sys::straightener_block_work_places(width, height, depth, plane) }
 }
 
 /// The places of work that a line takes; 0 for a length that is refused.

@@ -5,11 +5,15 @@ use std::fmt;
 use straightener_sys as sys;
 
 /// Makes the refusals of a list: number, name, the C interface's constant and words of each. Those of the
-/// second list name the sample to blame, by its row and column; the text before the constant says which.
+/// second list name the sample to blame, by its row and column; the text before the constant says which. One of
+/// them that blocks are refused with, too, has a second name, which names the depth as well.
 macro_rules! refusals {
     (
         plain: $($number:literal $name:ident $constant:ident $words:literal)*
-        with_a_place: $($at:literal $placed:ident $first:literal $placed_constant:ident $placed_words:literal)*
+        with_a_place: $(
+            $at:literal $placed:ident $(in_a_block $deep:ident)?
+            $first:literal $placed_constant:ident $placed_words:literal
+        )*
     ) => {
         /// Why a call was refused; nothing was written to any buffer.
         ///
@@ -33,6 +37,17 @@ macro_rules! refusals {
                     /// Column of that sample.
                     column: usize,
                 },
+                $(
+                    #[doc = concat!("Number ", $at, " of a block: ", $placed_words, ".")]
+                    $deep {
+                        /// Depth of the first such sample as the block is stored: by depth, row and column.
+                        depth: usize,
+                        /// Row of that sample.
+                        row: usize,
+                        /// Column of that sample.
+                        column: usize,
+                    },
+                )?
             )*
             /// A number that this version of the package has no name for, as a later version of the library may answer.
             #[non_exhaustive]
@@ -54,7 +69,7 @@ macro_rules! refusals {
             pub fn number(self) -> u32 {
                 match self {
                     $(Refusal::$name => $number,)*
-                    $(Refusal::$placed { .. } => $at,)*
+                    $(Refusal::$placed { .. } => $at, $(Refusal::$deep { .. } => $at,)?)*
                     Refusal::Unknown { number, .. } => number,
                 }
             }
@@ -68,6 +83,15 @@ macro_rules! refusals {
                     _ => Refusal::Unknown { number, row, column },
                 })
             }
+
+            /// The refusal of a number that a call on a block answered, with the depth, the row and the column that
+            /// came with it; number 0 is none. The depth is kept under number 6 alone: no other has one.
+            pub fn from_block_number(number: u32, depth: usize, row: usize, column: usize) -> Option<Refusal> {
+                match number {
+                    $($($at => Some(Refusal::$deep { depth, row, column }),)?)*
+                    _ => Refusal::from_number(number, row, column),
+                }
+            }
         }
 
         impl fmt::Display for Refusal {
@@ -77,6 +101,9 @@ macro_rules! refusals {
                     $(Refusal::$placed { row, column } => {
                         write!(f, "{}; row {row}, column {column}", $placed_words)
                     })*
+                    $($(Refusal::$deep { depth, row, column } => {
+                        write!(f, "{}; depth {depth}, row {row}, column {column}", $placed_words)
+                    })?)*
                     Refusal::Unknown { number, row, column } => {
                         write!(f, "number {number}, which this version has no words for; ")?;
                         write!(f, "row {row}, column {column}")
@@ -90,15 +117,17 @@ macro_rules! refusals {
 refusals! {
     plain:
         1 Size STRAIGHTENER_REFUSED_SIZE
-        "width, height and line length must be from 1 to 1,024"
+        "width, height and line length must be from 1 to 1,024, and width, height and depth of a block from 1 \
+         to 128"
 
         2 Buffer STRAIGHTENER_REFUSED_BUFFER
-        "a buffer is too short: a picture, result or output takes width x height places, a line its \
-         length, work its work places, and the answer to a line all of its bytes"
+        "a buffer is too short: a picture, result or output takes width x height places, a block or its result \
+         width x height x depth, a line its length, work its work places, and the answer to a line all of its \
+         bytes"
 
         3 Centre STRAIGHTENER_REFUSED_CENTRE
         "the centre lies outside the picture: its column must be below the width and its row below the \
-         height"
+         height; for a block, below the columns and the rows of its plane"
 
         4 Shear STRAIGHTENER_REFUSED_SHEAR
         "a shear must be from -4,096 to 4,096, a step from -1,697 to 1,697, and the move of a line from \
@@ -126,8 +155,11 @@ refusals! {
         "the width or the height differs from the ticket's: ask again about this picture; the ticket of a \
          refused asking is of no size"
 
+        17 Plane STRAIGHTENER_REFUSED_PLANE
+        "the plane must be 0 (across and down), 1 (across and depth) or 2 (down and depth)"
+
     with_a_place:
-        6 Sample "the first such sample in row order; 0 for a line" STRAIGHTENER_REFUSED_SAMPLE
+        6 Sample in_a_block BlockSample "the first such sample in row order; 0 for a line" STRAIGHTENER_REFUSED_SAMPLE
         "a sample, or the largest sample size given for a forecast, lies beyond its range, which is 32,767 \
          units to either side of 0 for straightening, 294,912 for a single line, and 1,048,576 for readings and \
          for levelling with a picture"

@@ -2,10 +2,13 @@
 
 use std::collections::HashSet;
 use straightener::{
-    answer_line, ask, commit, explain, floats_out, forecast, greys_out, level, level_checked,
-    line_work_places, move_line, raw, reading, sine, straighten, straightened, summary, work_places, Border,
-    Kernel, Refusal, Setting, Ticket,
+    answer_line, ask, block_work_places, commit, explain, floats_out, forecast, greys_out, level,
+    level_checked, line_work_places, move_line, raw, reading, sine, straighten, straighten_block,
+    straightened, straightened_block, summary, work_places, Border, Kernel, Plane, Refusal, Setting, Ticket,
 };
+
+/// The planes in the order of their numbers.
+const PLANES: [Plane; 3] = [Plane::AcrossAndDown, Plane::AcrossAndDepth, Plane::DownAndDepth];
 
 #[test]
 fn a_change_keeps_the_rest_of_the_setting() {
@@ -80,6 +83,65 @@ fn a_refused_forecast() {
     let too_large = refusal(2, setting, 32_768);
     assert_eq!(too_large, Refusal::Sample { row: 0, column: 0 });
     assert!(too_large.to_string().contains("the largest sample size given for a forecast"), "{too_large}");
+}
+
+#[test]
+fn a_block_in_each_plane() {
+    let block: Vec<i32> = (0..24).map(|place| if place % 5 == 0 { -2_000 } else { 100 * place }).collect();
+    let grey = Setting::new().with_kernel(Kernel::Spline).with_border(Border::Background(-50));
+    let setting = grey.with_centre(1, 1).with_shears(700, -900);
+    for (plane, (number, places)) in PLANES.into_iter().zip([(0, 36), (1, 48), (2, 48)]) {
+        assert_eq!(block_work_places(3, 2, 4, plane), places, "{plane:?}");
+        assert_eq!(raw::block_work_places(3, 2, 4, number), places, "{plane:?}");
+        let (mut result, mut work) = (vec![7; 24], vec![7; places]);
+        let told = straighten_block(3, 2, 4, plane, setting, &block, &mut result, &mut work);
+        let told = told.expect("nothing is wrong");
+        assert_eq!(straightened_block(3, 2, 4, plane, setting, &block), Ok((result.clone(), told)));
+        let mut again = vec![0; 24];
+        let answer = raw::straighten_block(3, 2, 4, number, setting.into(), &block, &mut again, &mut work);
+        assert_eq!((answer.number, &again), (0, &result), "{plane:?}");
+        assert_eq!((answer.count, answer.smallest), (told.count, told.smallest), "{plane:?}");
+        assert_eq!((answer.largest, &work), (told.largest, &vec![0; places]), "{plane:?}");
+        let extremes = result.iter().min().zip(result.iter().max());
+        assert_eq!(extremes, Some((&told.smallest, &told.largest)), "{plane:?}");
+    }
+}
+
+#[test]
+fn the_slices_across_and_down_are_the_pictures() {
+    let block: Vec<i32> = (0..24).map(|place| 37 * place % 101).collect();
+    let setting = Setting::new().with_kernel(Kernel::Keys).with_centre(1, 1).with_shears(-300, 600);
+    let (result, told) =
+        straightened_block(3, 2, 4, Plane::AcrossAndDown, setting, &block).expect("nothing is wrong");
+    let pictures = block.chunks(6).map(|picture| straightened(3, 2, setting, picture).expect("a picture"));
+    let (pictures, tellings): (Vec<_>, Vec<_>) = pictures.unzip();
+    assert_eq!(result, pictures.concat());
+    assert_eq!(told.count, tellings.iter().map(|told| told.count).sum::<u32>());
+}
+
+#[test]
+fn a_refused_block() {
+    let (mut block, setting) = (vec![0; 24], Setting::new().with_centre(2, 3));
+    let refusal = |sides: [usize; 3], plane, setting, block: &[i32]| {
+        straightened_block(sides[0], sides[1], sides[2], plane, setting, block).expect_err("a refusal")
+    };
+    let [down, deep, _] = PLANES;
+    assert_eq!(refusal([0, 2, 4], down, setting, &block), Refusal::Size);
+    assert_eq!(refusal([3, 129, 4], down, setting, &block), Refusal::Size);
+    assert_eq!(refusal([3, 2, 4], down, setting, &block[1..]), Refusal::Buffer);
+    assert_eq!(refusal([3, 2, 4], down, setting, &block), Refusal::Centre);
+    assert_eq!(refusal([3, 2, 4], deep, setting.with_shears(0, 4_097), &block), Refusal::Shear);
+    block[23] = -32_768;
+    let bright = setting.with_border(Border::Background(32_768));
+    assert_eq!(refusal([3, 2, 4], deep, bright, &block), Refusal::Background);
+    let sample = refusal([3, 2, 4], deep, setting, &block);
+    assert_eq!(sample, Refusal::BlockSample { depth: 3, row: 1, column: 2 });
+    assert_eq!(sample.number(), Refusal::Sample { row: 1, column: 2 }.number());
+    assert!(sample.to_string().ends_with("; depth 3, row 1, column 2"), "{sample}");
+    let (mut result, mut work) = (vec![7; 24], vec![7; 48]);
+    let answer = raw::straighten_block(3, 2, 4, 3, setting.into(), &block, &mut result, &mut work);
+    assert_eq!(Refusal::from_block_number(answer.number, 0, 0, 0), Some(Refusal::Plane));
+    assert_eq!((result, work), (vec![7; 24], vec![7; 48]));
 }
 
 /// Whether all lines of a board end at the same column.
@@ -244,6 +306,14 @@ fn convenience_takes_any_size_without_allocating_it() {
     assert_eq!((result, told.count), (vec![1, 2], 0));
     assert_eq!((work_places(3, 5), line_work_places(7)), (60, 42));
     assert_eq!((work_places(3, 1_025), line_work_places(usize::MAX)), (0, 0));
+    let block = |sides: [usize; 3], block: &[i32]| {
+        straightened_block(sides[0], sides[1], sides[2], Plane::DownAndDepth, Setting::new(), block)
+    };
+    for sides in [[usize::MAX; 3], [usize::MAX, 2, 1], [0, usize::MAX, 2], [2, 0, 0]] {
+        assert_eq!(block(sides, &[1, 2]), Err(Refusal::Size));
+    }
+    assert_eq!(block([128; 3], &[1, 2]), Err(Refusal::Buffer));
+    assert_eq!(block([2, 1, 1], &[1, 2, 3]).map(|(result, _)| result), Ok(vec![1, 2]));
 }
 
 #[test]

@@ -71,7 +71,7 @@ scanned-requires c κs =
     let a = start2 two .args in
     let z = size-good (no1 (two .before .before)) in
     let l = long-enough (a .width) (a .height) (length (a .picture .now)) (a .result) (a .work) (no2 two) in
-    (z .0 .1, z .1 .1, omega (arith, l .0, mul-comm (a .width) (a .height)), record { from = leZ-yes tt; to = leZ-yes tt })
+    (z .0 .1, omega (arith, z .1 .1), omega (arith, l .0, mul-comm (a .width) (a .height)), record { from = leZ-yes tt; to = leZ-yes tt })
 
 returns-4 : tie.Need-returns-4
 unfolding judgedOn

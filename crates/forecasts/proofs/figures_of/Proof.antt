@@ -25,7 +25,7 @@ count-of-requires c κs = search needs
 returns : tie.Need-returns
 returns c =
     let b = c .before .before in
-    rw (c .before .room .ensures, c .count-of .ensures, toZ-pos w32 {n = b .bound-of .result} (omega (arith, b .bound-of .ensures .1)), b .bound-of .ensures .0, b .before .largest-in .ensures) refl
+    rw (c .before .room .ensures, c .count-of .ensures .0, toZ-pos w32 {n = b .bound-of .result} (omega (arith, b .bound-of .ensures .1)), b .bound-of .ensures .0, b .before .largest-in .ensures) refl
 
 pub figures-of-spec : {M : Type 1} → statement M
 figures-of-spec =

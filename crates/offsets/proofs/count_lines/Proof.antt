@@ -4,19 +4,16 @@ use mathlib.Core.Path.{_≡_, refl, _∙_}
 use native.Mathlib.Numerals.{add-one}
 use native.Mathlib.Omega.{arith}
 use borrow.Author.Needs.{needs}
-use mir.Syntax.{w32}
-use mir.Val.{toZ}
-use mir.Facts.{toZ-ofZ}
-use Rattle.passes.specs.Picture.{shear}
 use Rattle.passes.specs.Count.{interpolated}
+use Rattle.offsets.specs.Moves.{moveOf}
 use Rattle.offsets.proofs.count_lines.Statement.{statement}
 use Rattle.offsets.proofs.count_lines.Tie as tie
 
 abbrev Inv-loop : tie.InvT-loop
-Inv-loop border n a c lines count₀ y₀ count y = (y ≤ lines) × (count ≤ y) × (count ≡ interpolated border n (shear (toZ w32 a) c) y)
+Inv-loop border n moves lines count₀ y₀ count y = (y ≤ lines) × (count ≤ y) × (count ≡ interpolated border n (moveOf moves) y)
 
 abbrev μ-loop : tie.MeasureT-loop
-μ-loop border n a c lines count₀ y₀ count y = lines - y
+μ-loop border n moves lines count₀ y₀ count y = lines - y
 
 loop-holds : tie.Need-loop-holds Inv-loop μ-loop
 loop-holds c = (omega arith, omega arith, unfold interpolated in refl)
@@ -45,7 +42,7 @@ returns : tie.Need-returns Inv-loop μ-loop
 returns c =
     let s = c .before .before in
     let e : c .before .loop .y ≡ s .args .lines = omega arith in
-    (c .before .loop .inv .2 ∙ rw (e, toZ-ofZ (s .fits .a)) refl, omega arith)
+    (c .before .loop .inv .2 ∙ rw e refl, omega arith)
 
 pub count-lines-spec : {M : Type 1} → statement M
 count-lines-spec =

@@ -1,6 +1,7 @@
 -- `count_of` adds the lines of the three passes: pass 3 moves the rows as pass 1 does. Assumes nothing.
 use Prim.Native.Nat.{_+_}
 use mathlib.Core.Path.{_≡_, ap₂}
+use native.Mathlib.Omega.{arith}
 use borrow.Author.Needs.{needs}
 use lib.Dec.{lit<}
 use mir.Syntax.{w32}
@@ -36,7 +37,7 @@ returns c =
     let o = c .before .before in
     let s = o .before .before in
     let rows = o .count-lines .ensures .0 in
-    rw (a-is s, b-is s) at (ap₂ _+_ (ap₂ _+_ rows (c .count-lines2 .ensures .0)) rows)
+    (rw (a-is s, b-is s) at (ap₂ _+_ (ap₂ _+_ rows (c .count-lines2 .ensures .0)) rows), omega (arith, o .count-lines .ensures .1, c .count-lines2 .ensures .1))
 
 pub count-of-spec : {M : Type 1} → statement M
 count-of-spec =

@@ -3,15 +3,14 @@ use mathlib.Core.Path.{_≡_, ap, _∙_}
 use borrow.Author.Needs.{needs}
 use mir.Syntax.{w64}
 use mir.Val.{toZ, ofZ}
-use mir.Facts.{toZ-ofZ}
 use Rattle.arith.proofs.Machine.{read-back}
 use Rattle.moves.specs.Row.{held}
-use Rattle.passes.specs.Picture.{shear}
+use Rattle.offsets.specs.Moves.{moveOf}
 use Rattle.offsets.proofs.held_of.Statement.{statement}
 use Rattle.offsets.proofs.held_of.Tie as tie
 
-d-is : (c : tie.After-move-of) → let a = c .before .args in toZ w64 (ofZ w64 (c .move-of .result)) ≡ shear (a .a) (a .c) (a .y)
-d-is c = let a = c .before .args in read-back w64 _ (c .move-of .ok) ∙ c .move-of .ensures .0 ∙ ap (λ z. shear z (a .c) (a .y)) (toZ-ofZ (c .before .fits .a))
+d-is : (c : tie.After-move-of) → let a = c .before .args in toZ w64 (ofZ w64 (c .move-of .result)) ≡ moveOf (a .moves) (a .y)
+d-is c = read-back w64 _ (c .move-of .ok) ∙ c .move-of .ensures .0
 
 move-of-requires : tie.Need-move-of-requires
 move-of-requires c κs = search needs

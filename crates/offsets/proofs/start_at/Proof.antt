@@ -4,17 +4,14 @@ use native.Mathlib.Omega.{arith}
 use borrow.Author.Needs.{needs}
 use mir.Syntax.{w64}
 use mir.Val.{toZ, ofZ}
-use mir.Facts.{toZ-ofZ}
 use Rattle.arith.proofs.Machine.{read-back}
 use Rattle.moves.specs.Row.{startAt, held}
-use Rattle.passes.specs.Picture.{shear}
+use Rattle.offsets.specs.Moves.{moveOf}
 use Rattle.offsets.proofs.start_at.Statement.{statement}
 use Rattle.offsets.proofs.start_at.Tie as tie
 
-moved : (c : tie.After-held-of) → let a = c .before .args in toZ w64 (ofZ w64 (c .held-of .result)) ≡ held (a .border) (a .n) (shear (a .a) (a .c) (a .y))
-moved c =
-    let a = c .before .args in
-    read-back w64 _ (c .held-of .ok) ∙ c .held-of .ensures .0 ∙ ap (λ z. held (a .border) (a .n) (shear z (a .c) (a .y))) (toZ-ofZ (c .before .fits .a))
+moved : (c : tie.After-held-of) → let a = c .before .args in toZ w64 (ofZ w64 (c .held-of .result)) ≡ held (a .border) (a .n) (moveOf (a .moves) (a .y))
+moved c = read-back w64 _ (c .held-of .ok) ∙ c .held-of .ensures .0
 
 held-of-requires : tie.Need-held-of-requires
 held-of-requires c κs = search needs

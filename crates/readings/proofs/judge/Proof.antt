@@ -33,7 +33,7 @@ returns-2 c = rw (good-size (c .before), lt-ltb _ _ (c .if2 .taken)) refl
 scanned-requires : tie.Need-scanned-requires
 scanned-requires c κs =
     let z = size-good (good-size (c .before)) in
-    (z .0 .1, z .1 .1, omega arith, record { from = leZ-yes tt; to = leZ-yes tt })
+    (z .0 .1, omega (arith, z .1 .1), omega arith, record { from = leZ-yes tt; to = leZ-yes tt })
 
 returns-3 : tie.Need-returns-3
 unfolding judged short

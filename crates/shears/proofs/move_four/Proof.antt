@@ -5,7 +5,6 @@ use mathlib.Core.List.{List}
 use native.Mathlib.Omega.{arith}
 use borrow.Author.Needs.{needs}
 use lib.ListN.{getD}
-use mir.Facts.{toZ-ofZ}
 use Rattle.lists.proofs.Grid.{lines-from}
 use Rattle.kernels.specs.Kernel.{Kernel, kernelOf}
 use Rattle.settings.specs.declared.Border.{Border}
@@ -13,7 +12,7 @@ use Rattle.moves.specs.declared.Part.{Part}
 use Rattle.moves.specs.Row.{places, startAt, held, Covers, loadedOf}
 use Rattle.moves.proofs.Border.{places-some}
 use Rattle.moves.proofs.Kept.{loaded-holds}
-use Rattle.passes.specs.Picture.{shear}
+use Rattle.offsets.specs.Moves.{moveOf}
 use Rattle.grid.specs.Four.{fourStored}
 use Rattle.shears.proofs.Moved.{loaded-rows, laid-moved}
 use Rattle.shears.proofs.move_four.Statement.{statement}
@@ -28,7 +27,7 @@ places-of-requires c κs = c .pre .0 .short
 starts-at-requires : tie.Need-starts-at-requires
 starts-at-requires c κs =
     let s = c .before in
-    rw (toZ-ofZ (s .fits .a)) (s .pre .0 .some, s .pre .0 .short, s .pre .0 .slight, s .pre .0 .central, s .pre .0 .few)
+    (s .pre .0 .some, s .pre .0 .short, s .pre .0 .slight, s .pre .0 .few)
 
 window-at-requires : tie.Need-window-at-requires
 window-at-requires c κs =
@@ -58,8 +57,8 @@ module _ (c : tie.After-loaded-of) where
   abbrev window : Part
   window = c .before .window-at .result
 
-  starts-are : (i : ℕ) → i < 4 → getD starts i 0 ≡ startAt β n (held β n (shear (start .args .a) (start .args .c) (start .args .y + i)))
-  starts-are i l = rw (toZ-ofZ (start .fits .a)) at (c .before .before .starts-at .ensures i l .0)
+  starts-are : (i : ℕ) → i < 4 → getD starts i 0 ≡ startAt β n (held β n (moveOf (start .args .moves) (start .args .y + i)))
+  starts-are i l = c .before .before .starts-at .ensures i l .0
 
   covers : (i : ℕ) → i < 4 → Covers β n (getD starts i 0) window
   covers = c .before .window-at .ensures
@@ -81,7 +80,7 @@ treat-four-requires c κs =
     let s = start p in
     let a = s .args in
     let w = covers p 0 (omega arith) in
-    rw (toZ-ofZ (s .fits .a), v .load-four .kept .1 .1 .1 .1 .1 .0) (
+    rw (v .load-four .kept .1 .1 .1 .1 .1 .0) (
       s .pre .0,
       (
         omega (arith, w .low, w .high, s .pre .0 .some),
@@ -121,9 +120,9 @@ returns c =
     let work = t .treat-four .last .0 in
     c .before .store-four .ensures
     ∙ ap (λ (m : ℕ). fourStored (a .y * a .across) (a .along) (a .across) (a .n) m work (starts p) (a .picture .now)) (p .before .before .before .places-of .ensures)
-    ∙ laid-moved (β p) (a .y) (a .along) (a .across) (n p) (a .picture .now) (s .pre .0 .plain) (s .pre .1 .1) (κ p) (shear (a .a) (a .c)) (window p) now work (λ (i : ℕ). getD (starts p) i 0)
+    ∙ laid-moved (β p) (a .y) (a .along) (a .across) (n p) (a .picture .now) (s .pre .0 .plain) (s .pre .1 .1) (κ p) (moveOf (a .moves)) (window p) now work (λ (i : ℕ). getD (starts p) i 0)
     (omega (arith, v .load-four .kept .1 .1 .1 .1 .1 .0, s .pre .0 .roomy)) (starts-are p) (covers p) (rw (loaded-is p) at (v .load-four .ensures))
-    (λ (i : ℕ) (l : i < 4). rw (toZ-ofZ (s .fits .a)) at (t .treat-four .ensures i l))
+    (λ (i : ℕ) (l : i < 4). t .treat-four .ensures i l)
 
 pub move-four-spec : {M : Type 1} → statement M
 move-four-spec =

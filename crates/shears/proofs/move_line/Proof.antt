@@ -7,7 +7,6 @@ use borrow.Author.Needs.{needs}
 use lib.IntN.{ℤ, natAbs}
 use lib.ListN.{length}
 use mir.Syntax.{w32}
-use mir.Facts.{toZ-ofZ}
 use Rattle.arith.proofs.Machine.{read-back}
 use Rattle.arith.proofs.Move.{fraction-low, fraction-below}
 use Rattle.lists.specs.Line.{line}
@@ -19,7 +18,7 @@ use Rattle.moves.specs.declared.Part.{Part}
 use Rattle.moves.specs.Row.{places, setIn, Covers, loadedOf, Alike}
 use Rattle.moves.proofs.Border.{places-some, places-few}
 use Rattle.moves.proofs.Kept.{loaded-holds, alike-within}
-use Rattle.passes.specs.Picture.{shear}
+use Rattle.offsets.specs.Moves.{moveOf}
 use Rattle.shears.proofs.Moved.{put-moved}
 use Rattle.shears.proofs.move_line.Statement.{statement}
 use Rattle.shears.proofs.move_line.Tie as tie
@@ -111,7 +110,7 @@ treat-requires c κs =
         fraction-low _,
         fraction-below _,
       ),
-      alike-within 294912 (β p) (loadedOf (κ p) (places (β p) (n p)) (window p)) (own p) (row r) (rw (own-length p) (loaded-holds (κ p) w .2)) (s .pre .0 .7) (own-small p) (set r),
+      alike-within 294912 (β p) (loadedOf (κ p) (places (β p) (n p)) (window p)) (own p) (row r) (rw (own-length p) (loaded-holds (κ p) w .2)) (s .pre .0 .6) (own-small p) (set r),
     )
 
 store-line-requires : tie.Need-store-line-requires
@@ -137,9 +136,9 @@ returns c =
     let s = start p in
     let a = s .args in
     c .before .store-line .ensures
-    ∙ put-moved (β p) (s .pre .0 .7) (κ p) (shear (a .a) (a .c)) (a .y) (at p) (a .along) (n p) (p .before .before .start-at .result) (window p) (a .picture .now) (row r) (t .treat .last .0)
-    (rw (toZ-ofZ (s .fits .a)) at (p .before .before .start-at .ensures .0)) (s .pre .1 .1) (row-length r) (covers p) (set r)
-    (rw (read-back w32 _ (f .ok), f .ensures, toZ-ofZ (s .fits .a)) at (t .treat .ensures))
+    ∙ put-moved (β p) (s .pre .0 .6) (κ p) (moveOf (a .moves)) (a .y) (at p) (a .along) (n p) (p .before .before .start-at .result) (window p) (a .picture .now) (row r) (t .treat .last .0)
+    (p .before .before .start-at .ensures .0) (s .pre .1 .1) (row-length r) (covers p) (set r)
+    (rw (read-back w32 _ (f .ok), f .ensures) at (t .treat .ensures))
 
 pub move-line-spec : {M : Type 1} → statement M
 move-line-spec =

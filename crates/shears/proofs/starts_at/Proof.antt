@@ -5,9 +5,8 @@ use mathlib.Core.List.{[], _∷_}
 use native.Mathlib.Nat.{add-zero}
 use borrow.Author.Needs.{needs}
 use lib.ListN.{getD}
-use mir.Facts.{toZ-ofZ}
 use Rattle.moves.specs.Row.{places, startAt, held}
-use Rattle.passes.specs.Picture.{shear}
+use Rattle.offsets.specs.Moves.{moveOf}
 use Rattle.grid.proofs.Rows.{each-four}
 use Rattle.shears.proofs.starts_at.Statement.{statement}
 use Rattle.shears.proofs.starts_at.Tie as tie
@@ -38,11 +37,11 @@ returns c =
     let s = c .before .before .before .before in
     let a = s .args in
     let r = c .before .before .before .start-at .result ∷ c .before .before .start-at2 .result ∷ c .before .start-at3 .result ∷ c .start-at4 .result ∷ [] in
-    each-four (λ (i : ℕ). (getD r i 0 ≡ startAt (a .border) (a .n) (held (a .border) (a .n) (shear (a .a) (a .c) (a .y + i)))) × (getD r i 0 < places (a .border) (a .n)))
-    (subst (λ (z : ℕ). (getD r 0 0 ≡ startAt (a .border) (a .n) (held (a .border) (a .n) (shear (a .a) (a .c) z))) × (getD r 0 0 < places (a .border) (a .n))) (sym (add-zero (a .y))) (rw (toZ-ofZ (s .fits .a)) at (c .before .before .before .start-at .ensures)))
-    (rw (toZ-ofZ (s .fits .a)) at (c .before .before .start-at2 .ensures))
-    (rw (toZ-ofZ (s .fits .a)) at (c .before .start-at3 .ensures))
-    (rw (toZ-ofZ (s .fits .a)) at (c .start-at4 .ensures))
+    each-four (λ (i : ℕ). (getD r i 0 ≡ startAt (a .border) (a .n) (held (a .border) (a .n) (moveOf (a .moves) (a .y + i)))) × (getD r i 0 < places (a .border) (a .n)))
+    (subst (λ (z : ℕ). (getD r 0 0 ≡ startAt (a .border) (a .n) (held (a .border) (a .n) (moveOf (a .moves) z))) × (getD r 0 0 < places (a .border) (a .n))) (sym (add-zero (a .y))) (c .before .before .before .start-at .ensures))
+    (c .before .before .start-at2 .ensures)
+    (c .before .start-at3 .ensures)
+    (c .start-at4 .ensures)
 
 pub starts-at-spec : {M : Type 1} → statement M
 starts-at-spec =

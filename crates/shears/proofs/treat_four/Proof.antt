@@ -3,7 +3,6 @@ use Prim.Native.Nat.{ℕ, _<_}
 use mathlib.Core.Path.{_≡_, subst}
 use native.Mathlib.Omega.{arith}
 use borrow.Author.Needs.{needs}
-use mir.Facts.{toZ-ofZ}
 use Rattle.kernels.specs.Kernel.{kernelOf}
 use Rattle.moves.specs.InPlace.{prepared}
 use Rattle.moves.specs.Row.{places}
@@ -44,7 +43,7 @@ weigh-four-requires c κs =
     let s = p .before .before .before in
     let a = s .args in
     let v = p .prepare-four in
-    rw (toZ-ofZ (s .fits .a), v .kept .0)
+    rw (v .kept .0)
     (s .pre .0, (s .pre .1 .0, s .pre .1 .1, prepared-rows (kernelOf (a .kernel)) (places (a .border) (a .n)) (a .part) (a .work .now) (v .last .0) (s .pre .0 .roomy) (s .pre .1 .0) (s .pre .1 .1) (s .pre .1 .2) (prepared-are p)))
 
 same-length : tie.Need-same-length
@@ -54,7 +53,7 @@ returns : tie.Need-returns
 returns c =
     let p = c .before .before .before .before in
     let s = p .before .before .before in
-    λ (i : ℕ) (l : i < 4). rw (toZ-ofZ (s .fits .a), prepared-are p i l) at (c .before .weigh-four .ensures i l)
+    λ (i : ℕ) (l : i < 4). rw (prepared-are p i l) at (c .before .weigh-four .ensures i l)
 
 pub treat-four-spec : {M : Type 1} → statement M
 treat-four-spec =

@@ -8,8 +8,6 @@ use borrow.Rule.Slice.PartMut.{same-len-mid}
 use lib.IntN.{ℤ, pos}
 use lib.ListN.{length}
 use mir.Syntax.{w32}
-use mir.Val.{toZ, ofZ}
-use mir.Facts.{toZ-ofZ}
 use Rattle.arith.proofs.Machine.{read-back}
 use Rattle.arith.proofs.Move.{fraction-low, fraction-below}
 use Rattle.arith.specs.Move.{fraction}
@@ -22,20 +20,21 @@ use Rattle.moves.specs.InPlace.{weighed-size}
 use Rattle.moves.specs.Row.{weighedPart, held}
 use Rattle.moves.proofs.Kept.{part-length}
 use Rattle.grid.specs.Four.{FourPartWithin}
-use Rattle.passes.specs.Picture.{shear}
+use Rattle.offsets.specs.declared.Moves.{Moves}
+use Rattle.offsets.specs.Moves.{moveOf}
 use Rattle.grid.proofs.Rows.{treated, treated-none, treated-next, treated-more, treated-row}
 use Rattle.shears.proofs.weigh_four.Statement.{statement}
 use Rattle.shears.proofs.weigh_four.Tie as tie
 
-abbrev weighs : Border → ℕ → ℕ → ℤ → ℕ → ℕ → Part → ℕ → List ℤ → List ℤ
-weighs β n kernel a c y part i = weighedPart (kernelOf kernel) (pos (fraction (held β n (shear a c (y + i))))) part
+abbrev weighs : Border → ℕ → ℕ → Moves → ℕ → Part → ℕ → List ℤ → List ℤ
+weighs β n kernel moves y part i = weighedPart (kernelOf kernel) (pos (fraction (held β n (moveOf moves (y + i))))) part
 
 abbrev Inv-loop : tie.InvT-loop
-Inv-loop work₀ n border kernel a c y part m i₀ work i =
-    (i ≤ 4) × (length work ≡ length work₀) × (work ≡ treated m (weighs border n kernel (toZ w32 a) c y part) work₀ i)
+Inv-loop work₀ n border kernel moves y part m i₀ work i =
+    (i ≤ 4) × (length work ≡ length work₀) × (work ≡ treated m (weighs border n kernel moves y part) work₀ i)
 
 abbrev μ-loop : tie.MeasureT-loop
-μ-loop work₀ n border kernel a c y part m i₀ work i = 4 - i
+μ-loop work₀ n border kernel moves y part m i₀ work i = 4 - i
 
 -- a row's places
 abbrev m : tie.After-places-of Inv-loop μ-loop → ℕ
@@ -44,15 +43,15 @@ m p = p .places-of .result
 room : (p : tie.After-places-of Inv-loop μ-loop) → 4 * m p ≤ length (p .before .args .work .now)
 room p = rw (p .places-of .ensures) (p .before .pre .0 .roomy)
 
-abbrev weighing : tie.Start Inv-loop μ-loop → ℤ → ℕ → List ℤ → List ℤ
-weighing s a = weighs (s .args .border) (s .args .n) (s .args .kernel) a (s .args .c) (s .args .y) (s .args .part)
+abbrev weighing : tie.Start Inv-loop μ-loop → ℕ → List ℤ → List ℤ
+weighing s = weighs (s .args .border) (s .args .n) (s .args .kernel) (s .args .moves) (s .args .y) (s .args .part)
 
 end : (p : tie.After-places-of Inv-loop μ-loop) → p .before .args .part .hi ≤ m p
 end p = omega (arith, p .places-of .ensures, p .before .pre .1)
 
-keeps : (p : tie.After-places-of Inv-loop μ-loop) (a : ℤ) (i : ℕ) → i < 4
-    → length (weighing (p .before) a i (rowOf (m p) (p .before .args .work .now) i)) ≡ m p
-keeps p a i l =
+keeps : (p : tie.After-places-of Inv-loop μ-loop) (i : ℕ) → i < 4
+    → length (weighing (p .before) i (rowOf (m p) (p .before .args .work .now) i)) ≡ m p
+keeps p i l =
     let len = row-length (m p) (p .before .args .work .now) i 4 l (room p) in
     part-length (kernelOf (p .before .args .kernel)) _ (p .before .args .part) (rowOf (m p) (p .before .args .work .now) i) (p .before .pre .1 .0) (omega (arith, len, end p))
     ∙ len
@@ -75,7 +74,7 @@ add-fraction-of c = omega (arith, c .before .before .before .pre .0 .few)
 fraction-of-requires : tie.Need-fraction-of-requires Inv-loop μ-loop
 fraction-of-requires c κs =
     let s = c .before .before .before in
-    rw (toZ-ofZ (s .fits .a)) (s .pre .0 .short, s .pre .0 .slight, s .pre .0 .central, omega (arith, s .pre .0 .few))
+    (s .pre .0 .short, s .pre .0 .slight, omega (arith, s .pre .0 .few))
 
 within : (c : tie.After-fraction-of Inv-loop μ-loop)
     → let p = c .before .before .before in c .before .before .loop .i * m p + m p ≤ length (p .before .args .work .now)
@@ -106,7 +105,7 @@ weigh-part-requires c κs =
     let s = p .before in
     let a = s .args in
     let len = row-length (m p) (a .work .now) (l .loop .i) 4 (omega arith) (room p) in
-    rw (treated-next (m p) (weighing s (toZ w32 (ofZ w32 (a .a)))) (a .work .now) (room p) (keeps p (toZ w32 (ofZ w32 (a .a)))) (l .loop .i) (l .loop .work) (omega arith) (l .loop .inv .2), len, read-back w32 _ (c .before .fraction-of .ok), c .before .fraction-of .ensures) (
+    rw (treated-next (m p) (weighing s) (a .work .now) (room p) (keeps p) (l .loop .i) (l .loop .work) (omega arith) (l .loop .inv .2), len, read-back w32 _ (c .before .fraction-of .ok), c .before .fraction-of .ensures) (
       (s .pre .1 .0, end p, s .pre .0 .known, fraction-low _, fraction-below _),
       small p (l .loop .i) (omega arith),
     )
@@ -127,7 +126,7 @@ loop-again c =
     let f = read-back w32 _ (c .before .before .before .fraction-of .ok) ∙ c .before .before .before .fraction-of .ensures in (
       omega arith,
       same-len-mid (l .loop .i * m p) (l .loop .i * m p + m p - l .loop .i * m p) (l .loop .work) (v .last .0) (v .kept .0) ∙ l .loop .inv .1,
-      treated-more (m p) (weighing s (toZ w32 (ofZ w32 (a .a)))) (a .work .now) (room p) (keeps p (toZ w32 (ofZ w32 (a .a)))) (l .loop .i) (l .loop .work) _ (omega arith) (l .loop .inv .2) (rw f at (v .ensures)),
+      treated-more (m p) (weighing s) (a .work .now) (room p) (keeps p) (l .loop .i) (l .loop .work) _ (omega arith) (l .loop .inv .2) (rw f at (v .ensures)),
     )
 
 same-length : tie.Need-same-length Inv-loop μ-loop
@@ -140,8 +139,8 @@ returns c =
     let a = s .args in
     let e : c .before .loop .i ≡ 4 = omega arith in
     λ (i : ℕ) (l : i < 4).
-    subst (λ (n : ℕ). rowOf n (c .before .loop .work) i ≡ weighing s (a .a) i (rowOf n (a .work .now) i)) (p .places-of .ensures)
-    (rw (c .before .loop .inv .2, e, toZ-ofZ (s .fits .a)) (treated-row (m p) (weighing s (a .a)) (a .work .now) (room p) (keeps p (a .a)) i l))
+    subst (λ (n : ℕ). rowOf n (c .before .loop .work) i ≡ weighing s i (rowOf n (a .work .now) i)) (p .places-of .ensures)
+    (rw (c .before .loop .inv .2, e) (treated-row (m p) (weighing s) (a .work .now) (room p) (keeps p) i l))
 
 pub weigh-four-spec : {M : Type 1} → statement M
 weigh-four-spec =

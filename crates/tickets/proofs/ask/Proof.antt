@@ -40,7 +40,7 @@ returns-2 c =
     let t = c .before in
     let j = t .before .before in
     let a = j .before .args in
-    asked-accepted (a .width) (a .height) (a .setting) (a .picture .now) (a .result .now) (a .work .now) _ (judged j) _ (t .enum-told2 .given .1) (c .count-of .ensures)
+    asked-accepted (a .width) (a .height) (a .setting) (a .picture .now) (a .result .now) (a .work .now) _ (judged j) _ (t .enum-told2 .given .1) (c .count-of .ensures .0)
 
 pub ask-spec : {M : Type 1} → statement M
 ask-spec =

@@ -244,6 +244,107 @@ static void forecasts(void)
            (int)-told.bound, (int)told.bound);
 }
 
+/* The slices of a block of 3 by 2 by 4 in one plane: their columns, their rows and how many they are, and how many
+ * places lie from one column, row and slice to the next. */
+struct plane_example {
+    size_t columns, rows, slices;
+    size_t right, down, on;
+};
+
+static const struct plane_example planes[] = {
+    {3, 2, 4, 1, 3, 6}, /* across and down */
+    {3, 4, 2, 1, 6, 3}, /* across and depth */
+    {2, 4, 3, 3, 6, 1}, /* down and depth */
+};
+
+/* Holds every slice of a straightened block to the single call on it, and answers the sum of their counts. */
+static uint32_t slices(const struct plane_example *p, straightener_setting s, const int32_t *block, const int32_t *r)
+{
+    size_t slice, k, places = p->columns * p->rows;
+    uint32_t count = 0;
+    for (slice = 0; slice < p->slices; slice++) {
+        int32_t picture[12], single[12], work[48];
+        straightener_answer answer;
+        for (k = 0; k < places; k++)
+            picture[k] = block[slice * p->on + k / p->columns * p->down + k % p->columns * p->right];
+        answer = straightener_straighten(p->columns, p->rows, s, picture, places, single, places, work, 48);
+        expect(answer.number == STRAIGHTENER_ACCEPTED);
+        for (k = 0; k < places; k++)
+            expect(r[slice * p->on + k / p->columns * p->down + k % p->columns * p->right] == single[k]);
+        count += answer.count;
+    }
+    return count;
+}
+
+static void blocks(void)
+{
+    straightener_setting s = {STRAIGHTENER_SPLINE, 1, 1, 700, -900, 8, -50};
+    const size_t work_places[] = {36, 48, 48};
+    int32_t block[25], r[26], work[50];
+    uint32_t plane, lines[3];
+    size_t k;
+    for (k = 0; k < 24; k++)
+        block[k] = k % 5 == 0 ? -2000 : (int32_t)(100 * k);
+    block[24] = INT32_MIN; /* past the block, so it is not judged */
+    for (plane = 0; plane <= STRAIGHTENER_DOWN_AND_DEPTH; plane++) {
+        size_t places = straightener_block_work_places(3, 2, 4, plane);
+        straightener_block_answer b;
+        straightener_answer told = {0};
+        fill(r, 26);
+        fill(work, 50);
+        b = straightener_straighten_block(3, 2, 4, plane, s, block, 25, r, 26, work, 50);
+        lines[plane] = slices(&planes[plane], s, block, r);
+        expect(b.number == STRAIGHTENER_ACCEPTED && b.depth == 0 && b.row == 0 && b.column == 0 && b.count == lines[plane]);
+        told.smallest = b.smallest;
+        told.largest = b.largest;
+        expect(spans(told, r, 24) && all(r, 24, 26, UNTOUCHED));
+        expect(places == work_places[plane] && all(work, 0, places, 0) && all(work, places, 50, UNTOUCHED));
+    }
+    printf("blocks: %u lines across and down, %u across and depth, %u down and depth\n", (unsigned)lines[0],
+           (unsigned)lines[1], (unsigned)lines[2]);
+}
+
+/* Whether an answer to a block is a refusal that tells nothing but its number and a place. */
+static int turns_away(straightener_block_answer b, uint32_t number, size_t depth, size_t row, size_t column)
+{
+    return b.number == number && b.depth == depth && b.row == row && b.column == column && b.count == 0 &&
+           b.smallest == 0 && b.largest == 0;
+}
+
+static void refused_blocks(void)
+{
+    straightener_setting s = {STRAIGHTENER_KEYS, 2, 3, 700, -900, STRAIGHTENER_WRAPPED, -32768};
+    int32_t block[24] = {0}, r[24], work[48];
+    straightener_block_answer b[10];
+    block[10] = -32768; /* depth 1, row 1, column 1 */
+    block[17] = 32768;
+    fill(r, 24);
+    fill(work, 48);
+    /* The centre is column 2 of row 3: of the slices only those across and depth have it. */
+    b[0] = straightener_straighten_block(3, 2, 4, STRAIGHTENER_ACROSS_AND_DOWN, s, block, 24, r, 24, work, 48);
+    b[1] = straightener_straighten_block(3, 2, 4, STRAIGHTENER_ACROSS_AND_DEPTH, s, block, 24, r, 24, work, 48);
+    b[2] = straightener_straighten_block(3, 2, 4, STRAIGHTENER_DOWN_AND_DEPTH, s, block, 24, r, 24, work, 48);
+    expect(turns_away(b[0], STRAIGHTENER_REFUSED_CENTRE, 0, 0, 0) && turns_away(b[2], STRAIGHTENER_REFUSED_CENTRE, 0, 0, 0));
+    expect(turns_away(b[1], STRAIGHTENER_REFUSED_SAMPLE, 1, 1, 1));
+    s = straightener_with_centre(s, 1, 1);
+    b[0] = straightener_straighten_block(3, 2, 4, STRAIGHTENER_ACROSS_AND_DOWN, s, block, 24, r, 24, work, 48);
+    b[2] = straightener_straighten_block(3, 2, 4, STRAIGHTENER_DOWN_AND_DEPTH, s, block, 24, r, 24, work, 48);
+    expect(turns_away(b[0], STRAIGHTENER_REFUSED_SAMPLE, 1, 1, 1) && turns_away(b[2], STRAIGHTENER_REFUSED_SAMPLE, 1, 1, 1));
+    b[3] = straightener_straighten_block(3, 2, 4, 2, s, block, 23, r, 24, work, 48);
+    b[4] = straightener_straighten_block(3, 2, 4, 2, s, block, 24, r, 23, work, 48);
+    b[5] = straightener_straighten_block(3, 2, 4, 2, s, block, 24, r, 24, work, 47);
+    expect(turns_away(b[3], STRAIGHTENER_REFUSED_BUFFER, 0, 0, 0) && turns_away(b[4], 2, 0, 0, 0) && turns_away(b[5], 2, 0, 0, 0));
+    b[6] = straightener_straighten_block(3, 2, 4, 3, s, NULL, 0, NULL, 0, NULL, 0);
+    b[7] = straightener_straighten_block(3, 2, 4, UINT32_MAX, s, block, 24, r, 24, work, 48);
+    expect(turns_away(b[6], STRAIGHTENER_REFUSED_PLANE, 0, 0, 0) && turns_away(b[7], 17, 0, 0, 0));
+    b[8] = straightener_straighten_block(3, 2, 129, 3, s, NULL, 0, NULL, 0, NULL, 0);
+    b[9] = straightener_straighten_block(SIZE_MAX, 2, 4, 1, s, block, 24, r, 24, work, 48);
+    expect(turns_away(b[8], STRAIGHTENER_REFUSED_SIZE, 0, 0, 0) && turns_away(b[9], 1, 0, 0, 0));
+    expect(straightener_block_work_places(128, 1, 128, 2) == 1536 && straightener_block_work_places(128, 1, 1, 2) == 12);
+    expect(straightener_block_work_places(3, 2, 129, 0) == 0 && straightener_block_work_places(3, 2, 4, 3) == 0);
+    expect(all(r, 0, 24, UNTOUCHED) && all(work, 0, 48, UNTOUCHED));
+}
+
 /* Whether an explanation is a refusal that shows nothing but its number and a column. */
 static int shows_nothing(straightener_explanation_answer e, uint32_t number, size_t column)
 {
@@ -375,11 +476,12 @@ static void refusals(void)
     n[7] = straightener_level(0, 0, 1024, 0).number;
     n[8] = straightener_level(10, 0, 10, 0).number;
     n[15] = straightener_level_checked(3, 2, 0, 0, 1, 0, 1, picture, 6).number;
+    n[17] = straightener_straighten_block(3, 2, 1, 3, setting, NULL, 0, NULL, 0, NULL, 0).number;
     expect(straightener_answer_line((const uint8_t *)"junk", 4, answer, 11).written == 11);
     n[9] = (unsigned)(answer[1] - '0');
     expect(all(r, 0, 6, UNTOUCHED) && all(work, 0, 36, UNTOUCHED));
-    printf("refusals: %u %u %u %u %u %u %u %u %u %u %u %u\n", n[1], n[2], n[3], n[4], n[5], n[6], n[7], n[8], n[9], n[12], n[14],
-           n[15]);
+    printf("refusals: %u %u %u %u %u %u %u %u %u %u %u %u %u\n", n[1], n[2], n[3], n[4], n[5], n[6], n[7], n[8], n[9], n[12],
+           n[14], n[15], n[17]);
 }
 
 /* Whether a setting has these five parts, and the border 8 with background INT32_MIN. */
@@ -512,6 +614,8 @@ int main(void)
     added();
     tickets();
     forecasts();
+    blocks();
+    refused_blocks();
     explanations();
     on_background();
     refusals();

@@ -24,6 +24,14 @@ int main(void)
     FIELD(straightener_answer, count);
     FIELD(straightener_answer, smallest);
     FIELD(straightener_answer, largest);
+    SIZE("\nBlockAnswer", straightener_block_answer);
+    FIELD(straightener_block_answer, number);
+    FIELD(straightener_block_answer, depth);
+    FIELD(straightener_block_answer, row);
+    FIELD(straightener_block_answer, column);
+    FIELD(straightener_block_answer, count);
+    FIELD(straightener_block_answer, smallest);
+    FIELD(straightener_block_answer, largest);
     SIZE("\nTicket", straightener_ticket);
     FIELD(straightener_ticket, width);
     FIELD(straightener_ticket, height);

@@ -4,6 +4,7 @@
 //! library. Tests hold the two against each other, and the benchmark takes this one as its yardstick:
 //! a remainder for every source place and a division for every sample.
 
+mod block;
 mod border;
 mod explanation;
 mod forecast;
@@ -14,6 +15,7 @@ mod readings;
 mod steps;
 mod tickets;
 
+pub use block::{block_work_places, straighten_block};
 pub use border::{interpolated, Border};
 pub use explanation::{explain, Parts};
 pub use forecast::{forecast, Forecast};
@@ -30,8 +32,10 @@ pub const LONGEST: usize = 1_024;
 /// Why a call was refused: the document's number, and under numbers 6 and 15 the place of the sample.
 #[derive(Clone, Copy, Debug, PartialEq, Eq)]
 pub struct Refused {
-    /// 1 to 9, as document 01 lists them, or 12, 14 or 15 of document 02.
+    /// 1 to 9, as document 01 lists them, or 12, 14, 15 or 17 of document 02.
     pub number: u32,
+    /// Depth of the first sample of a block beyond the range; 0 for every other number and call.
+    pub depth: usize,
     /// Row of the first sample beyond the range, or below the threshold; 0 for every other number.
     pub row: usize,
     /// Column of that sample; 0 for every other number.
@@ -41,7 +45,7 @@ pub struct Refused {
 impl Refused {
     /// A refusal that names no sample.
     fn under(number: u32) -> Refused {
-        Refused { number, row: 0, column: 0 }
+        Refused { number, depth: 0, row: 0, column: 0 }
     }
 }
 
@@ -87,7 +91,7 @@ fn judge_samples(width: usize, height: usize, picture: &[i32], range: i32) -> Re
     for row in 0..height {
         for column in 0..width {
             if !(-range..=range).contains(&picture[row * width + column]) {
-                return Err(Refused { number: 6, row, column });
+                return Err(Refused { number: 6, depth: 0, row, column });
             }
         }
     }

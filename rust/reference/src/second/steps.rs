@@ -61,7 +61,7 @@ pub fn level_checked(
         let row = (2 * (y1 * dx + dy * (x - x1)) + dx).div_euclid(2 * dx) as usize;
         let column = x as usize;
         if picture[width * row + column] < threshold {
-            return Err(Refused { number: 15, row, column });
+            return Err(Refused { number: 15, depth: 0, row, column });
         }
     }
     Ok(step)

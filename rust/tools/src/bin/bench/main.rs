@@ -3,10 +3,13 @@
 //!
 //! In every round each call is timed once with wrapped edges, once on background, once by the second
 //! implementation with wrapped edges, and once as three plain copies of the same picture, the least that
-//! three passes can do; the line program is timed beside `cat`. Each time is the median over the rounds,
-//! to three digits, and each ratio that of the two medians as they are printed, to two digits.
+//! three passes can do; a block is timed beside single calls on its slices, and the line program beside
+//! `cat`. Each time is the median over the rounds, to three digits, and each ratio that of the two medians
+//! as they are printed, to two digits.
 //!
 //! `cargo run --release --bin bench [ROUNDS]`, after `rt check straightener` and `make`.
+
+mod blocks;
 
 use reference::second;
 use std::error::Error;
@@ -292,9 +295,8 @@ fn digit_tests(rounds: usize) -> String {
     table_row(&[grouped(long.len() as f64), figure(2, rate(library)), figure(2, rate(plain))])
 }
 
-fn main() -> Result<(), Box<dyn Error>> {
-    let rounds: usize = std::env::args().nth(1).map_or(Ok(ROUNDS), |word| word.parse())?;
-    let rounds = rounds.max(1);
+/// Measures pictures of every size with every kernel, and prints the tables of wrapped edges and of both borders.
+fn pictures(rounds: usize) {
     let kernels = 0..KERNELS.len() as u32;
     let mut cases: Vec<Case> =
         SIZES.iter().flat_map(|&size| kernels.clone().map(move |kernel| Case::new(size, kernel))).collect();
@@ -319,7 +321,10 @@ fn main() -> Result<(), Box<dyn Error>> {
     println!("\nThe same passes with wrapped edges and on background, in the same rounds.\n");
     println!("{}", table_head(&["Picture", "Kernel", "Wrapped", "Background", "Times wrapped"]));
     cases.iter().for_each(|case| println!("{}", case.border_row()));
+}
 
+/// Measures the line program and its test of digits, and prints their tables.
+fn lines(rounds: usize) -> Result<(), Box<dyn Error>> {
     let program = PathBuf::from(env!("CARGO_MANIFEST_DIR")).join("../../target/bin/straightener");
     if !program.is_file() {
         return Err("the line program is not there; make it by: rt check straightener".into());
@@ -335,4 +340,12 @@ fn main() -> Result<(), Box<dyn Error>> {
     println!("{}", table_head(&["Digits", "Library", "Second implementation"]));
     println!("{}", digit_tests(rounds));
     Ok(())
+}
+
+fn main() -> Result<(), Box<dyn Error>> {
+    let rounds: usize = std::env::args().nth(1).map_or(Ok(ROUNDS), |word| word.parse())?;
+    let rounds = rounds.max(1);
+    pictures(rounds);
+    blocks::measure(rounds);
+    lines(rounds)
 }
