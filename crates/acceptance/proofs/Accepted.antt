@@ -25,7 +25,7 @@ use Rattle.moves.proofs.Border.{background-good, good-background}
 use Rattle.acceptance.specs.Judge.{range, workPlaces, tooShort, badCentre, badShears, judgedSetting, FitSetting, judgedOn, judged, Fit}
 
 -- ---- the numbers in their order: 1, 2, 14, 3, 4, 5, 12 and 6
-then-later : (three four five twelve : Bool) (later : Verdict)
+pub then-later : (three four five twelve : Bool) (later : Verdict)
     → andThen (refusedIf three 3 (refusedIf four 4 (refusedIf five 5 (refusedIf twelve 12 Accepted)))) later
     ≡ refusedIf three 3 (refusedIf four 4 (refusedIf five 5 (refusedIf twelve 12 later)))
 then-later true four five twelve later = refl
@@ -112,7 +112,7 @@ fit-range f i l = omega (arith, f .samples i l)
 
 -- ---- what a verdict says of the sample that it names
 -- row and column are 0 except under 6
-abbrev ZeroButSix : Verdict → Type 0
+abbrev pub ZeroButSix : Verdict → Type 0
 ZeroButSix v = (numberOf v ≡ 6 → ⊥) → (rowOf v ≡ 0) × (columnOf v ≡ 0)
 
 zero-if : (t : Bool) (number : ℕ) (later : Verdict) → ZeroButSix later → ZeroButSix (refusedIf t number later)
@@ -124,16 +124,16 @@ zero-found Nothing other = (refl, refl)
 zero-found (At row column) other = absurd (other refl)
 
 -- a verdict before a sample is read: its number is neither 0 nor 6, and it names no place
-record Unread (v : Verdict) : Type 0 where
-  some-number : AcceptedByZero v
-  not-six : numberOf v ≡ 6 → ⊥
-  nowhere : ZeroButSix v
+pub record Unread (v : Verdict) : Type 0 where
+  pub some-number : AcceptedByZero v
+  pub not-six : numberOf v ≡ 6 → ⊥
+  pub nowhere : ZeroButSix v
 
 unread-if : (t : Bool) (number : ℕ) (later : Verdict) → (number ≡ 0 → ⊥) → (number ≡ 6 → ⊥) → Unread later → Unread (refusedIf t number later)
 unread-if true number later some other u = record { some-number = λ e. absurd (some e); not-six = other; nowhere = λ e. (refl, refl) }
 unread-if false number later some other u = u
 
-setting-unread : (W H : ℕ) (s : Setting) → Unread (judgedSetting W H s)
+pub setting-unread : (W H : ℕ) (s : Setting) → Unread (judgedSetting W H s)
 setting-unread W H s =
     unread-if (badCentre W H s) 3 _ (λ e. omega arith) (λ e. omega arith) (unread-if (badShears s) 4 _ (λ e. omega arith) (λ e. omega arith)
     (unread-if (badKernel (s .kernel)) 5 _ (λ e. omega arith) (λ e. omega arith) (unread-if (badBackground (s .border)) 12 _ (λ e. omega arith) (λ e. omega arith)
@@ -145,6 +145,22 @@ zero-then (Refused number row column) later u z = u .nowhere
 
 pub setting-by-zero : (W H : ℕ) (s : Setting) → AcceptedByZero (judgedSetting W H s)
 setting-by-zero W H s = setting-unread W H s .some-number
+
+-- a chain that answers 6 has passed the tests before it, and found the sample that it names
+pub six-past : (t : Bool) (number : ℕ) (later : Verdict) (y x : ℕ) → (number ≡ 6 → ⊥) → refusedIf t number later ≡ Refused 6 y x → later ≡ Refused 6 y x
+six-past true number later y x l e = absurd (l cc)
+six-past false number later y x l e = e
+
+pub six-past-then : (v later : Verdict) (y x : ℕ) → Unread v → andThen v later ≡ Refused 6 y x → later ≡ Refused 6 y x
+six-past-then Accepted later y x u e = e
+six-past-then (Refused number row column) later y x u e = absurd (u .not-six (ap numberOf e))
+
+pub six-found : (f : Found) (y x : ℕ) → ofFound 6 f ≡ Refused 6 y x → f ≡ At y x
+six-found Nothing y x e = let z : _≡_ {A = ℕ} 0 1 = cc in absurd (omega arith)
+six-found (At row column) y x e =
+    let p : row ≡ y = cc in
+    let q : column ≡ x = cc in
+    cc
 
 -- ---- the whole chain
 module _ (W H : ℕ) (s : Setting) (picture : List ℤ) (result work : ℕ) where
@@ -191,26 +207,11 @@ module _ (other : Bool) (W H : ℕ) (s : Setting) (picture : List ℤ) (result w
   pub refused-sample : (y x : ℕ) → judgedOn other W H s picture result work ≡ Refused 6 y x → BadAt range W H picture y x
   unfolding judgedOn
   refused-sample y x e =
-      let one = past (badSize W H) 1 _ y x (λ q. omega arith) e in
-      let two = past (tooShort W H (length picture) result work) 2 _ y x (λ q. omega arith) one in
-      let fourteen = past other 14 _ y x (λ q. omega arith) two in
-      let setting = past-then (judgedSetting W H s) _ y x (setting-unread W H s) fourteen in
-      first-bad range W H picture y x .0 (found (firstBad range W H picture) y x setting)
-    where
-      past : (t : Bool) (number : ℕ) (later : Verdict) (y x : ℕ) → (number ≡ 6 → ⊥) → refusedIf t number later ≡ Refused 6 y x → later ≡ Refused 6 y x
-      past true number later y x l e = absurd (l cc)
-      past false number later y x l e = e
-
-      past-then : (v later : Verdict) (y x : ℕ) → Unread v → andThen v later ≡ Refused 6 y x → later ≡ Refused 6 y x
-      past-then Accepted later y x u e = e
-      past-then (Refused number row column) later y x u e = absurd (u .not-six (ap numberOf e))
-
-      found : (f : Found) (y x : ℕ) → ofFound 6 f ≡ Refused 6 y x → f ≡ At y x
-      found Nothing y x e = let z : _≡_ {A = ℕ} 0 1 = cc in absurd (omega arith)
-      found (At row column) y x e =
-          let p : row ≡ y = cc in
-          let q : column ≡ x = cc in
-          cc
+      let one = six-past (badSize W H) 1 _ y x (λ q. omega arith) e in
+      let two = six-past (tooShort W H (length picture) result work) 2 _ y x (λ q. omega arith) one in
+      let fourteen = six-past other 14 _ y x (λ q. omega arith) two in
+      let setting = six-past-then (judgedSetting W H s) _ y x (setting-unread W H s) fourteen in
+      first-bad range W H picture y x .0 (six-found (firstBad range W H picture) y x setting)
 
   -- and no other number names a place
   pub refused-zero : ZeroButSix (judgedOn other W H s picture result work)

@@ -4,6 +4,8 @@ ghost use mathlib.Core.Path.{_≡_};
 ghost use Rattle.pictures.specs.Answer.{Answer as PictureStraightened};
 ghost use Rattle.tickets.specs.Ticket.{Asking, Committed};
 ghost use Rattle.forecasts.specs.Figures.{forecastOf};
+ghost use Rattle.blocks.specs.Answer.{Answer as BlockStraightened};
+ghost use Rattle.blocks.specs.Judge.{workPlaces as blockWorkPlaces};
 ghost use Rattle.lines.specs.Answer.{LineMoved};
 ghost use Rattle.lines.specs.Answer as line;
 ghost use Rattle.explanations.specs.Answer.{Explained};
@@ -15,8 +17,9 @@ ghost use Rattle.graticule.specs.Checked.{LevelChecked};
 ghost use Rattle.readings.specs.Sample.{greyOf};
 ghost use Rattle.readings.specs.Answers.{Out, FloatsOut, ReadingAt, SummaryOf};
 ghost use Rattle.format.specs.Answered.{LineAnswered};
-ghost use Rattle.flat.specs.Exported.{Exported, borderOf, settingOf, laidAs, ofChange, ofVerdict, ofOutcome, ofLine, ofSine, ofLevelled, ofReading, ofSummary, ofWritten, ticketOf, ofAsked, ofForecast, ofExplanation, ofChecked};
+ghost use Rattle.flat.specs.Exported.{Exported, borderOf, settingOf, laidAs, ofChange, ofVerdict, ofOutcome, ofBlock, ofLine, ofSine, ofLevelled, ofReading, ofSummary, ofWritten, ticketOf, ofAsked, ofForecast, ofExplanation, ofChecked};
 use flat::Answer;
+use flat::BlockAnswer;
 use flat::CheckedStep;
 use flat::ExplanationAnswer;
 use flat::FlatAsked;
@@ -109,6 +112,45 @@ pub extern "C" fn straightener_forecast(
     ensures { λ r. ⌜ r ≡ ofForecast (forecastOf width height (settingOf setting) largest) ⌝ }
 {
     flat::of_forecast(forecasts::forecast(width, height, flat::setting_of(setting), largest))
+}
+
+// Straightens a block of pictures in one plane.
+#[no_mangle]
+pub extern "C" fn straightener_straighten_block(
+    width: usize,
+    height: usize,
+    depth: usize,
+    plane: u32,
+    setting: FlatSetting,
+    block: &[i32],
+    result: &mut [i32],
+    work: &mut [i32],
+) -> BlockAnswer
+    ensures { λ r. ⌜ Exported ofBlock (λ o. BlockStraightened width height depth plane (settingOf setting) (now (block .entry)) (now (result .entry)) (now (work .entry)) o (now (result .exit)) (now (work .exit))) r ⌝ }
+{
+    flat::of_block(blocks::straighten(
+        width,
+        height,
+        depth,
+        plane,
+        flat::setting_of(setting),
+        block,
+        result,
+        work,
+    ))
+}
+
+// The work places that a block takes in a plane, 0 for sides or a plane that are refused.
+#[no_mangle]
+pub extern "C" fn straightener_block_work_places(
+    width: usize,
+    height: usize,
+    depth: usize,
+    plane: u32,
+) -> usize
+    ensures { λ r. ⌜ r ≡ blockWorkPlaces width height depth plane ⌝ }
+{
+    blocks::work_places(width, height, depth, plane)
 }
 
 // Moves one line.

@@ -10,6 +10,7 @@ use Rattle.lists.specs.Tab.{tab}
 use Rattle.lists.specs.declared.Extremes.{Extremes}
 use Rattle.refusals.specs.declared.Verdict.the-variants as verdict
 use Rattle.pictures.specs.declared.Outcome.the-variants as picture
+use Rattle.blocks.specs.declared.Outcome.the-variants as block
 use Rattle.lines.specs.declared.LineOutcome.the-variants as line
 use Rattle.steps.specs.declared.StepSine.the-variants as sine
 use Rattle.levelling.specs.declared.Levelled.the-variants as level
@@ -21,7 +22,7 @@ use Rattle.explanations.specs.Made.{noTerm, noParts}
 use Rattle.readings.specs.declared.Reading.{Reading}
 use Rattle.readings.specs.declared.Reading.the-variants.{Level, Under, Over}
 use Rattle.flat.specs.declared.FlatSetting.{FlatSetting}
-use Rattle.flat.specs.Exported.{ofVerdict, ofAsked, ofForecast, ofExplanation, ofOutcome, ofLine, ofSine, ofLevelled, ofChecked, kindOf, greysOf, ofReading, ofSummary, ofWritten}
+use Rattle.flat.specs.Exported.{ofVerdict, ofAsked, ofForecast, ofExplanation, ofOutcome, ofBlock, ofLine, ofSine, ofLevelled, ofChecked, kindOf, greysOf, ofReading, ofSummary, ofWritten}
 
 -- ---- refused under a number, with a row and a column: these three, and every other figure 0
 module _ (n y x : ℕ) where
@@ -30,6 +31,10 @@ module _ (n y x : ℕ) where
 
   pub refused-picture : ofOutcome (picture.Refused n y x) ≡ record { number = n; row = y; column = x; count = 0; smallest = pos 0; largest = pos 0 }
   refused-picture = refl
+
+  -- with a depth, too
+  pub refused-block : (z : ℕ) → ofBlock (block.Refused n z y x) ≡ record { number = n; depth = z; row = y; column = x; count = 0; smallest = pos 0; largest = pos 0 }
+  refused-block z = refl
 
   -- with the ticket that it hands back, and the flat setting as it was asked
   pub refused-asked : (s : FlatSetting) (t : Ticket)
@@ -102,6 +107,11 @@ pub accepted-picture : (lines : ℕ) (extremes : Extremes)
 accepted-picture lines extremes = refl
 
 -- a line counts 1 where it was interpolated, and 0 where it moved by whole samples
+pub accepted-block : (lines : ℕ) (extremes : Extremes)
+    → ofBlock (block.Straightened lines extremes)
+    ≡ record { number = 0; depth = 0; row = 0; column = 0; count = lines; smallest = extremes .smallest; largest = extremes .largest }
+accepted-block lines extremes = refl
+
 pub accepted-line : (extremes : Extremes)
     → map ofLine (line.Moved true extremes ∷ line.Moved false extremes ∷ [])
     ≡ record { number = 0; row = 0; column = 0; count = 1; smallest = extremes .smallest; largest = extremes .largest }

@@ -5,6 +5,7 @@
 --     Range      linear's range, and a number added to all samples, as C and Rust are told
 --     Ahead      a forecast and a straightening, as C and Rust are told
 --     Sample     an explanation and a moved line, as C and Rust are told
+--     Slice      a call on a block and the single call on a slice, as C and Rust are told
 --     Examples   answers of the calls, laid out and computed
 pub mod Figures
 pub mod Settings
@@ -12,4 +13,5 @@ pub mod Tickets
 pub mod Range
 pub mod Ahead
 pub mod Sample
+pub mod Slice
 pub mod Examples

@@ -8,6 +8,8 @@ use Rattle.refusals.specs.declared.Verdict.{Verdict}
 use Rattle.refusals.specs.Judging as verdict
 use Rattle.pictures.specs.declared.Outcome.{Outcome}
 use Rattle.pictures.specs.Answer as straightened
+use Rattle.blocks.specs.declared.Outcome as block
+use Rattle.blocks.specs.Answer as blocks
 use Rattle.lines.specs.declared.LineOutcome.{LineOutcome}
 use Rattle.lines.specs.Answer as moved
 use Rattle.explanations.specs.declared.Explanation.{Explanation}
@@ -36,6 +38,7 @@ use Rattle.flat.specs.declared.FlatAsked.{FlatAsked}
 use Rattle.flat.specs.declared.ForecastAnswer.{ForecastAnswer}
 use Rattle.flat.specs.declared.ExplanationAnswer.{ExplanationAnswer}
 use Rattle.flat.specs.declared.Answer.{Answer}
+use Rattle.flat.specs.declared.BlockAnswer.{BlockAnswer}
 use Rattle.flat.specs.declared.Step.{Step}
 use Rattle.flat.specs.declared.CheckedStep.{CheckedStep}
 use Rattle.flat.specs.declared.ReadingAnswer.{ReadingAnswer}
@@ -111,6 +114,19 @@ ofOutcome o =
       count = straightened.countOf o;
       smallest = straightened.smallestOf o;
       largest = straightened.largestOf o;
+    }
+
+-- what the call on a block answers
+abbrev pub ofBlock : block.Outcome → BlockAnswer
+ofBlock o =
+    record {
+      number = blocks.numberOf o;
+      depth = blocks.depthOf o;
+      row = blocks.rowOf o;
+      column = blocks.columnOf o;
+      count = blocks.countOf o;
+      smallest = blocks.smallestOf o;
+      largest = blocks.largestOf o;
     }
 
 abbrev pub ofLine : LineOutcome → Answer

@@ -2,7 +2,8 @@
 // out flat. include/straightener.h says what each field means.
 ghost use mathlib.Core.Path.{_≡_};
 ghost use lib.IntN.{pos};
-ghost use Rattle.flat.specs.Exported.{borderOf, settingOf, laidAs, ofChange, ofVerdict, ofOutcome, ofLine, ofSine, ofLevelled, kindOf, greysOf, ofReading, ofSummary, ofWritten, ticketOf, ofAsked, ofForecast, ofExplanation, ofChecked};
+ghost use Rattle.flat.specs.Exported.{borderOf, settingOf, laidAs, ofChange, ofVerdict, ofOutcome, ofBlock, ofLine, ofSine, ofLevelled, kindOf, greysOf, ofReading, ofSummary, ofWritten, ticketOf, ofAsked, ofForecast, ofExplanation, ofChecked};
+use blocks::Outcome as BlockOutcome;
 use explanations::Explanation;
 use explanations::Term;
 use forecasts::Foretold;
@@ -26,6 +27,19 @@ use tickets::Ticket;
 #[repr(C)]
 pub struct Answer {
     pub number: u32,
+    pub row: usize,
+    pub column: usize,
+    pub count: u32,
+    pub smallest: i32,
+    pub largest: i32,
+}
+
+// What the call on a block answers: 0 or the refusal number, the depth, the row and the column under 6, the number of lines interpolated over all slices,
+// and the smallest and the largest sample of the result.
+#[repr(C)]
+pub struct BlockAnswer {
+    pub number: u32,
+    pub depth: usize,
     pub row: usize,
     pub column: usize,
     pub count: u32,
@@ -254,6 +268,31 @@ pub fn of_outcome(outcome: Outcome) -> Answer
     match outcome {
         Outcome::Straightened(count, extremes) => accepted(count, extremes),
         Outcome::Refused(number, row, column) => refused(number, row, column),
+    }
+}
+
+pub fn of_block(outcome: BlockOutcome) -> BlockAnswer
+    ensures { λ r. ⌜ r ≡ ofBlock outcome ⌝ }
+{
+    match outcome {
+        BlockOutcome::Straightened(count, extremes) => BlockAnswer {
+            number: 0,
+            depth: 0,
+            row: 0,
+            column: 0,
+            count,
+            smallest: extremes.smallest,
+            largest: extremes.largest,
+        },
+        BlockOutcome::Refused(number, depth, row, column) => BlockAnswer {
+            number,
+            depth,
+            row,
+            column,
+            count: 0,
+            smallest: NO_SAMPLE,
+            largest: NO_SAMPLE,
+        },
     }
 }
 
