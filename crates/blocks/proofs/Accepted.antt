@@ -26,7 +26,8 @@ use Rattle.blocks.specs.Judge.{badSides, badPlane, roomOf, workPlaces, t
 use Rattle.blocks.proofs.Planes.{place-below}
 
 -- ---- what each test that failed tells, and what makes it fail
-abbrev Side : ℕ → Type 0
+-- a side of a block
+abbrev pub Side : ℕ → Type 0
 Side n = (1 ≤ n) × (n ≤ 128)
 
 pub sides-good : (W H D : ℕ) → badSides W H D ≡ false → Side W × Side H × Side D
@@ -81,6 +82,39 @@ pub told-work : (W H D plane : ℕ) → Side W → Side H → Side D → plane �
 unfolding workPlaces
 told-work W H D plane w h d known = rw (fit-sides W H D w h d, plane-accepted plane known) refl
 
+-- as many places in one order of the sides as in the other
+all-places : (W H D : ℕ) → D * H * W ≡ W * H * D
+all-places W H D = omega arith
+
+-- ---- the sample that number 6 names
+module _ (W H D : ℕ) (block : List ℤ) where
+  -- depth z, row y, column x holds the first sample beyond the range, in the order of storage
+  pub record BadSample (z y x : ℕ) : Type 0 where
+    pub depth-inside : z < D
+    pub row-inside : y < H
+    pub column-inside : x < W
+    pub first : FirstBeyond range (W * H * D) (place W H z y x) block
+
+  -- row r of all pictures, one below the other, is row r modulo H at the depth r / H
+  bad-below : (r x : ℕ) → BadAt range W (D * H) block r x → BadSample (r / H) (r % H) x
+  bad-below r x b =
+      record {
+        depth-inside = div-lt-iff-lt-mul some .1 (b .row-inside);
+        row-inside = mod-lt r some;
+        column-inside = b .column-inside;
+        first = subst (λ (n : ℕ). FirstBeyond range n (place W H (r / H) (r % H) x) block) (all-places W H D) (subst (λ (n : ℕ). FirstBeyond range (D * H * W) n block) joined (b .first));
+      }
+    where
+      some : 0 < H
+      some = positive H (b .row-inside)
+        where
+          positive : (h : ℕ) → r < D * h → 0 < h
+          positive zero l = absurd (omega (arith, l))
+          positive (suc h) l = omega arith
+
+      joined : r * W + x ≡ place W H (r / H) (r % H) x
+      joined = ap (λ (n : ℕ). n * W + x) (sym (div-add-mod' r H)) ∙ place-below W H D (r / H) (r % H) x
+
 -- ---- the whole chain
 module _ (W H D plane : ℕ) (set : Setting) (block : List ℤ) (result work : ℕ) where
   abbrev s : Slices
@@ -114,10 +148,6 @@ module _ (W H D plane : ℕ) (set : Setting) (block : List ℤ) (result work : �
       → judged W H D plane set block result work ≡ samples
   unfolding judged
   only-samples sides known buffers setting = rw (sides, known, buffers, setting) refl
-
-  -- as many places in one order of the sides as in the other
-  all-places : (W H D : ℕ) → D * H * W ≡ W * H * D
-  all-places W H D = omega arith
 
   -- a call that passes every test is accepted
   pub fit-accepted : Fit W H D plane set block result work → judged W H D plane set block result work ≡ Accepted
@@ -156,38 +186,12 @@ module _ (W H D plane : ℕ) (set : Setting) (block : List ℤ) (result work : �
       by-zero-if (badSides W H D) 1 _ (λ e. omega arith) (by-zero-if (badPlane plane) 17 _ (λ e. omega arith) (by-zero-if two 2 _ (λ e. omega arith)
       (by-zero-then (judgedSetting (s .columns) (s .rows) set) _ (setting-by-zero (s .columns) (s .rows) set) (by-zero-found 6 (firstBad range W (D * H) block) (λ e. omega arith)))))
 
-  -- depth z, row y, column x holds the first sample beyond the range, in the order of storage
-  pub record BadSample (z y x : ℕ) : Type 0 where
-    pub depth-inside : z < D
-    pub row-inside : y < H
-    pub column-inside : x < W
-    pub first : FirstBeyond range (W * H * D) (place W H z y x) block
-
-  -- number 6 names it: row r of all pictures, one below the other, is row r modulo H at the depth r / H
-  pub refused-sample : (r x : ℕ) → judged W H D plane set block result work ≡ Refused 6 r x → BadSample (r / H) (r % H) x
+  -- number 6 names the first sample beyond the range, in the order of storage
+  pub refused-sample : (r x : ℕ) → judged W H D plane set block result work ≡ Refused 6 r x → BadSample W H D block (r / H) (r % H) x
   unfolding judged
   refused-sample r x e =
       let one = six-past (badSides W H D) 1 _ r x (λ q. omega arith) e in
       let seventeen = six-past (badPlane plane) 17 _ r x (λ q. omega arith) one in
       let buffers = six-past two 2 _ r x (λ q. omega arith) seventeen in
       let setting = six-past-then (judgedSetting (s .columns) (s .rows) set) _ r x (setting-unread (s .columns) (s .rows) set) buffers in
-      split (first-bad range W (D * H) block r x .0 (six-found (firstBad range W (D * H) block) r x setting))
-    where
-      split : BadAt range W (D * H) block r x → BadSample (r / H) (r % H) x
-      split b =
-          record {
-            depth-inside = div-lt-iff-lt-mul some .1 (b .row-inside);
-            row-inside = mod-lt r some;
-            column-inside = b .column-inside;
-            first = subst (λ (n : ℕ). FirstBeyond range n (place W H (r / H) (r % H) x) block) (all-places W H D) (subst (λ (n : ℕ). FirstBeyond range (D * H * W) n block) joined (b .first));
-          }
-        where
-          some : 0 < H
-          some = positive H (b .row-inside)
-            where
-              positive : (h : ℕ) → r < D * h → 0 < h
-              positive zero l = absurd (omega (arith, l))
-              positive (suc h) l = omega arith
-
-          joined : r * W + x ≡ place W H (r / H) (r % H) x
-          joined = ap (λ (n : ℕ). n * W + x) (sym (div-add-mod' r H)) ∙ place-below W H D (r / H) (r % H) x
+      bad-below W H D block r x (first-bad range W (D * H) block r x .0 (six-found (firstBad range W (D * H) block) r x setting))

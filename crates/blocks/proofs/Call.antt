@@ -33,12 +33,12 @@ use Rattle.pictures.proofs.Call as single-call
 use Rattle.blocks.specs.declared.Outcome.{Outcome}
 use Rattle.blocks.specs.declared.Outcome.the-variants as variants
 use Rattle.blocks.specs.Block.{slicesOf, sliceAt, rowAt, columnAt, straightSlice, straightenBlock}
-use Rattle.blocks.specs.Judge.{roomOf, judged, Fit}
+use Rattle.blocks.specs.Judge.{roomOf, Fit}
 use Rattle.blocks.specs.Answer.{numberOf, depthOf, rowOf, columnOf, refusedAt, countOver, sliceRows, smallestOver, largestOver, sliceOutcome, verdictOf, Answered, Answer}
 use Rattle.blocks.proofs.Ends.{Cover, smallest-groups, largest-groups}
 use Rattle.blocks.proofs.Planes.{stands, slices-whole}
 use Rattle.blocks.proofs.Straight.{third-slice, straight-slice, block-slice}
-use Rattle.blocks.proofs.Accepted.{sides-of, accepted-fit, zero-accepted, BadSample, refused-sample}
+use Rattle.blocks.proofs.Accepted.{Side, sides-of, accepted-fit, zero-accepted, BadSample, refused-sample}
 
 -- ---- a block that no number refuses
 module _ {W H D plane : ℕ} {set : Setting} {block : List ℤ} {places room : ℕ} (f : Fit W H D plane set block places room) where
@@ -51,7 +51,7 @@ module _ {W H D plane : ℕ} {set : Setting} {block : List ℤ} {places room : �
   abbrev n : ℕ
   n = s .columns * s .rows
 
-  pub sides : ((1 ≤ s .columns) × (s .columns ≤ 128)) × ((1 ≤ s .rows) × (s .rows ≤ 128)) × ((1 ≤ s .slices) × (s .slices ≤ 128))
+  pub sides : Side (s .columns) × Side (s .rows) × Side (s .slices)
   sides = sides-of W H D plane (f .width) (f .height) (f .depth)
 
   pub whole : Whole s size
@@ -101,6 +101,16 @@ module _ {W H D plane : ℕ} {set : Setting} {block : List ℤ} {places room : �
         samples = slice-range i hi;
       }
 
+  -- as it does where the slices of a result are its results
+  own-fit : (result : List ℤ) (work : ℕ) → roomOf s ≤ work → (i : ℕ) → i < s .slices
+      → singly.Fit (s .columns) (s .rows) set (sliceOf s block i) (length (sliceOf s result i)) work
+  own-fit result work big i hi = slice-fit i hi (length (sliceOf s result i)) work (omega (arith, slice-length s result i)) big
+
+  own-accepted : (result : List ℤ) (work : ℕ) → roomOf s ≤ work → (i : ℕ) → i < s .slices
+      → singly.judged (s .columns) (s .rows) set (sliceOf s block i) (length (sliceOf s result i)) work ≡ Accepted
+  own-accepted result work big i hi =
+      alone.fit-accepted (s .columns) (s .rows) set (sliceOf s block i) (length (sliceOf s result i)) work (own-fit result work big i hi)
+
   -- ---- and the result that it leaves
   module _ (result result′ : List ℤ) (done : result′ ≡ straightenBlock W H D plane set block ++ drop size result) where
     left-slice : Everywhere s (λ i y x. slice s result′ i y x ≡ straightSlice s set block i y x)
@@ -118,11 +128,8 @@ module _ {W H D plane : ℕ} {set : Setting} {block : List ℤ} {places room : �
         → single.Answer (s .columns) (s .rows) set (sliceOf s block i) (sliceOf s result i) work (sliceOutcome s set (sliceOf s result′ i)) (sliceOf s result′ i) work′
     slice-single work work′ big clean i hi =
         single-call.accepted-answer _ (s .columns) (s .rows) set (sliceOf s block i) (sliceOf s result i) work _ _ (sliceOf s result′ i) work′
-        (alone.fit-accepted (s .columns) (s .rows) set (sliceOf s block i) (length (sliceOf s result i)) (length work) fit) fit refl refl written clean
+        (own-accepted result (length work) big i hi) (own-fit result (length work) big i hi) refl refl written clean
       where
-        fit : singly.Fit (s .columns) (s .rows) set (sliceOf s block i) (length (sliceOf s result i)) (length work)
-        fit = slice-fit i hi (length (sliceOf s result i)) (length work) (omega (arith, slice-length s result i)) big
-
         written : sliceOf s result′ i
             ≡ straighten (set .border) (kernelIn set) (s .columns) (s .rows) (rowMoves set) (columnMoves set) (take n (sliceOf s block i)) ++ drop n (sliceOf s result i)
         written =
@@ -228,18 +235,10 @@ module _ (v : Verdict) (W H D plane : ℕ) (set : Setting) (block result work : 
         smallest = rw (e, found) (sym (smallest-over f result result′ done));
         largest = rw (e, found) (sym (largest-over f result result′ done));
         written = rw e done;
-        readable = λ a. by-slices f result result′ done (λ v. natAbs v ≤ 1048576) (λ i hi. each i hi .readable (slice-accepted i hi));
+        readable = λ a. by-slices f result result′ done (λ v. natAbs v ≤ 1048576) (λ i hi. each i hi .readable (own-accepted f result (length work) (f .work-places) i hi));
         cleared = rw e clean;
         single = λ a. each;
       }
-    where
-      s : Slices
-      s = slicesOf W H D plane
-
-      slice-accepted : (i : ℕ) → i < s .slices → singly.judged (s .columns) (s .rows) set (sliceOf s block i) (length (sliceOf s result i)) (length work) ≡ Accepted
-      slice-accepted i hi =
-          alone.fit-accepted (s .columns) (s .rows) set (sliceOf s block i) (length (sliceOf s result i)) (length work)
-          (slice-fit f i hi (length (sliceOf s result i)) (length work) (omega (arith, slice-length s result i)) (f .work-places))
 
 -- ---- what an answer says by its number
 module _ {W H D plane : ℕ} {set : Setting} {block result work : List ℤ} {r : Outcome} {result′ work′ : List ℤ}
@@ -259,7 +258,7 @@ module _ {W H D plane : ℕ} {set : Setting} {block result work : List ℤ} {r :
       a .written ∙ ap (λ v. verdict.whenAccepted v (straightenBlock W H D plane set block ++ drop (W * H * D) result) result) (was-accepted none)
 
   -- 6: its depth, row and column are those of the first sample beyond the range, in the order of storage
-  pub sample-named : numberOf r ≡ 6 → BadSample W H D plane set block (length result) (length work) (depthOf r) (rowOf r) (columnOf r)
+  pub sample-named : numberOf r ≡ 6 → BadSample W H D block (depthOf r) (rowOf r) (columnOf r)
   sample-named e =
       let six = sym (a .number) ∙ e in
       rw (a .depth, a .row, a .column, six)

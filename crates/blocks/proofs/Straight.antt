@@ -45,7 +45,7 @@ module _ (W H D plane : ℕ) (set : Setting) (block : List ℤ) where
   size = W * H * D
 
   -- what stands at place p of the straightened block
-  abbrev straight : ℕ → ℤ
+  abbrev pub straight : ℕ → ℤ
   straight p = straightSlice s set block (sliceAt W H plane p) (rowAt W H plane p) (columnAt W H plane p)
 
   pub block-length : length (straightenBlock W H D plane set block) ≡ size

@@ -32,7 +32,7 @@ use Rattle.blocks.specs.Block.{slicesOf}
 use Rattle.blocks.specs.Judge.{Fit}
 use Rattle.blocks.specs.Answer.{numberOf, countOf, smallestOf, largestOf, outcomeBy, countIn, countOver, Answered, Answer}
 use Rattle.blocks.specs.TwoCalls.{Copied, Kept}
-use Rattle.blocks.proofs.Call.{sides, whole, slice-fit, slice-straight, was-accepted, was-fit, was-left}
+use Rattle.blocks.proofs.Call.{sides, whole, some-places, slice-fit, slice-straight, was-accepted, was-fit, was-left}
 
 -- the answer leaves nothing open: two calls with one verdict, on the same block and buffers, come to the same and leave the same
 pub answered-once : {v : Verdict} {W H D plane : ℕ} {s : Slices} {set : Setting} {block result work : List ℤ} {r r₂ : Outcome} {result′ work′ result₂ work₂ : List ℤ}
@@ -123,9 +123,6 @@ module _ {W H D plane : ℕ} {set : Setting} {block result work : List ℤ} {r :
   among : (R : ℤ → ℤ → Type 0) (v w : ℤ) → Extreme R (line result′) (W * H * D) v → Extreme R (line (sliceOf s result′ i)) n w → R v w
   among R v w e d = subst (R v) (sym (d .there ∙ own-place (d .place) (d .inside))) (e .each _ (own-inside (d .place) (d .inside)))
 
-  many : 1 ≤ W * H * D
-  many = mul-pos (mul-pos (fit .width .0) (fit .height .0)) (fit .depth .0)
-
   own-smallest : single.smallestOf q ≡ smallest (line (sliceOf s result′ i)) n
   own-smallest = told .0 ∙ own-picked minℤ
 
@@ -148,8 +145,8 @@ module _ {W H D plane : ℕ} {set : Setting} {block result work : List ℤ} {r :
         largest = own-largest;
         within = (
           rw (block-smallest, own-smallest)
-              (among (λ x y. x ≤ℤ y) _ _ (smallest-is (line result′) (W * H * D) many) (smallest-is (line (sliceOf s result′ i)) n some)),
+              (among (λ x y. x ≤ℤ y) _ _ (smallest-is (line result′) (W * H * D) (some-places fit)) (smallest-is (line (sliceOf s result′ i)) n some)),
           rw (block-largest, own-largest)
-              (among (λ x y. y ≤ℤ x) _ _ (largest-is (line result′) (W * H * D) many) (largest-is (line (sliceOf s result′ i)) n some)),
+              (among (λ x y. y ≤ℤ x) _ _ (largest-is (line result′) (W * H * D) (some-places fit)) (largest-is (line (sliceOf s result′ i)) n some)),
         );
       }

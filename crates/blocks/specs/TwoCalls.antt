@@ -14,7 +14,7 @@ use Rattle.pictures.specs.declared.Outcome as declared
 use Rattle.pictures.specs.Answer as single
 use Rattle.blocks.specs.declared.Outcome.{Outcome}
 use Rattle.blocks.specs.Judge.{roomOf}
-use Rattle.blocks.specs.Answer.{numberOf, countOf, smallestOf, largestOf, Answer}
+use Rattle.blocks.specs.Answer.{countOf, smallestOf, largestOf}
 
 -- a single call on a picture that slice i of the block was copied into, with the setting of the block call and whatever buffers are long enough
 pub record Copied (s : Slices) (set : Setting) (block : List ℤ) (i : ℕ) (picture result work : List ℤ) (q : declared.Outcome) (result′ work′ : List ℤ) : Type 0 where
@@ -25,7 +25,7 @@ pub record Copied (s : Slices) (set : Setting) (block : List ℤ) (i : ℕ) (pic
   pub answer : single.Answer (s .columns) (s .rows) set picture result work q result′ work′
 
 -- what an accepted block call and such a call promise together: the single call is accepted too, the samples that it leaves are slice i of the block's
--- result, the block's count is so many times its own, and its smallest and largest are that slice's and no smaller and no larger than the block's
+-- result, the block's count is its own for every slice, and its smallest and largest are that slice's, within the block's
 pub record Kept (s : Slices) (r : Outcome) (result′ : List ℤ) (i : ℕ) (q : declared.Outcome) (own′ : List ℤ) : Type 0 where
   pub accepted : single.numberOf q ≡ 0
   pub samples : take (s .columns * s .rows) own′ ≡ sliceOf s result′ i

@@ -1,10 +1,11 @@
 // The block call: pictures over time, straightened in one of three planes, 0 across and down, 1 across and depth, 2 down and depth, the first named
 // counted as columns. A block is stored picture after picture by depth; samples are in 128ths of a grey, and shears in 4,096ths.
 // The tests read the block once, but for a row with a bad sample. An accepted block is copied into the result, and its slices are straightened where they
-// lie there: no slice is copied out. Then the result is looked through for its extremes. docs/PERFORMANCE.md says what that costs.
+// lie there, in plane 0 picture by picture, else all of them together: no slice is copied out. Then the result is looked through for its extremes.
+// docs/PERFORMANCE.md says what that costs.
 ghost use mathlib.Core.Path.{_≡_};
 ghost use mathlib.Core.List.{_++_};
-ghost use Prim.Native.Nat.{_*_, _≤_};
+ghost use Prim.Native.Nat.{_*_, _≤_, max};
 ghost use lib.IntN.{pos};
 ghost use lib.ListN.{length, drop, replicate};
 ghost use Rattle.blocks.specs.Block.{slicesOf, straightenBlock};
@@ -154,8 +155,62 @@ fn refused(height: usize, number: u32, row: usize, column: usize) -> Outcome
     Outcome::Refused(number, 0, 0, 0)
 }
 
-// An accepted call: the block is copied into the result, its slices are straightened there, and the work places are cleared. Answers how many lines were
-// interpolated over all slices, every one of which has as many.
+// The slices of plane 0, which are the pictures of the block, straightened one after the other: each is copied into the result when its turn comes, and so
+// is near for all of its passes.
+fn straighten_pictures(
+    width: usize,
+    height: usize,
+    depth: usize,
+    setting: Setting,
+    block: &[i32],
+    result: &mut [i32],
+    work: &mut [i32],
+)
+    requires { ⌜ Fit width height depth 0 setting (now block) (length (now result)) (length (now work)) ⌝ }
+    ensures { λ _. ⌜ now (result .exit) ≡ straightenBlock width height depth 0 setting (now (block .entry)) ++ drop (width * height * depth) (now (result .entry)) ⌝ }
+    ensures { λ _. ⌜ now (work .exit) ≡ replicate (12 * max width height) (pos 0) ++ drop (12 * max width height) (now (work .entry)) ⌝ }
+{
+    let places = width * height;
+    let mut z: usize = 0;
+    while z < depth {
+        let at = z * places;
+        pictures::straighten_accepted(
+            width,
+            height,
+            setting,
+            &block[at..],
+            &mut result[at..],
+            work,
+        );
+        z += 1;
+    }
+}
+
+// The slices of a plane straightened together: the block is copied into the result, its slices are straightened where they lie there, and the work places
+// are cleared.
+fn straighten_together(
+    width: usize,
+    height: usize,
+    depth: usize,
+    plane: u32,
+    setting: Setting,
+    block: &[i32],
+    result: &mut [i32],
+    work: &mut [i32],
+)
+    requires { ⌜ Fit width height depth plane setting (now block) (length (now result)) (length (now work)) ⌝ }
+    ensures { λ _. ⌜ now (result .exit) ≡ straightenBlock width height depth plane setting (now (block .entry)) ++ drop (width * height * depth) (now (result .entry)) ⌝ }
+    ensures { λ _. ⌜ now (work .exit) ≡ replicate (roomOf (slicesOf width height depth plane)) (pos 0) ++ drop (roomOf (slicesOf width height depth plane)) (now (work .entry)) ⌝ }
+{
+    let places = width * height * depth;
+    let s = slices_of(width, height, depth, plane);
+    let room = room_of(s);
+    lists::copy(block, result, places);
+    planes::straighten_slices(&mut result[..places], &mut work[..room], s, setting);
+    lists::clear(work, room);
+}
+
+// An accepted call: every slice is straightened into the result. Answers how many lines were interpolated over all slices, every one of which has as many.
 fn straighten_accepted(
     width: usize,
     height: usize,
@@ -171,13 +226,14 @@ fn straighten_accepted(
     ensures { λ r. ⌜ now (work .exit) ≡ replicate (roomOf (slicesOf width height depth plane)) (pos 0) ++ drop (roomOf (slicesOf width height depth plane)) (now (work .entry)) ⌝ }
     ensures { λ r. ⌜ r ≡ countOver (slicesOf width height depth plane) setting ⌝ }
 {
-    let places = width * height * depth;
     let s = slices_of(width, height, depth, plane);
-    let room = room_of(s);
-    lists::copy(block, result, places);
-    planes::straighten_slices(&mut result[..places], &mut work[..room], s, setting);
-    lists::clear(work, room);
-    s.slices as u32 * offsets::count_of(s.columns, s.rows, setting)
+    let lines = s.slices as u32 * offsets::count_of(s.columns, s.rows, setting);
+    if plane == 0 {
+        straighten_pictures(width, height, depth, setting, block, result, work);
+        return lines;
+    }
+    straighten_together(width, height, depth, plane, setting, block, result, work);
+    lines
 }
 
 // Straightens a block of `width` by `height` by `depth` samples into `result`: every slice in `plane` as a picture of its own, with the kernel, the centre,

@@ -106,12 +106,12 @@ pub accepted-picture : (lines : ℕ) (extremes : Extremes)
     ≡ record { number = 0; row = 0; column = 0; count = lines; smallest = extremes .smallest; largest = extremes .largest }
 accepted-picture lines extremes = refl
 
--- a line counts 1 where it was interpolated, and 0 where it moved by whole samples
 pub accepted-block : (lines : ℕ) (extremes : Extremes)
     → ofBlock (block.Straightened lines extremes)
     ≡ record { number = 0; depth = 0; row = 0; column = 0; count = lines; smallest = extremes .smallest; largest = extremes .largest }
 accepted-block lines extremes = refl
 
+-- a line counts 1 where it was interpolated, and 0 where it moved by whole samples
 pub accepted-line : (extremes : Extremes)
     → map ofLine (line.Moved true extremes ∷ line.Moved false extremes ∷ [])
     ≡ record { number = 0; row = 0; column = 0; count = 1; smallest = extremes .smallest; largest = extremes .largest }

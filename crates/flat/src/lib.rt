@@ -271,28 +271,29 @@ pub fn of_outcome(outcome: Outcome) -> Answer
     }
 }
 
+// The figures of an answer, with a depth.
+fn at_depth(depth: usize, answer: Answer) -> BlockAnswer
+    ensures { λ r. ⌜ r ≡ record { number = answer .number; depth = depth; row = answer .row; column = answer .column; count = answer .count; smallest = answer .smallest; largest = answer .largest } ⌝ }
+{
+    BlockAnswer {
+        number: answer.number,
+        depth,
+        row: answer.row,
+        column: answer.column,
+        count: answer.count,
+        smallest: answer.smallest,
+        largest: answer.largest,
+    }
+}
+
 pub fn of_block(outcome: BlockOutcome) -> BlockAnswer
     ensures { λ r. ⌜ r ≡ ofBlock outcome ⌝ }
 {
     match outcome {
-        BlockOutcome::Straightened(count, extremes) => BlockAnswer {
-            number: 0,
-            depth: 0,
-            row: 0,
-            column: 0,
-            count,
-            smallest: extremes.smallest,
-            largest: extremes.largest,
-        },
-        BlockOutcome::Refused(number, depth, row, column) => BlockAnswer {
-            number,
-            depth,
-            row,
-            column,
-            count: 0,
-            smallest: NO_SAMPLE,
-            largest: NO_SAMPLE,
-        },
+        BlockOutcome::Straightened(count, extremes) => at_depth(0, accepted(count, extremes)),
+        BlockOutcome::Refused(number, depth, row, column) => {
+            at_depth(depth, refused(number, row, column))
+        }
     }
 }
 

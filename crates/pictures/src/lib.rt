@@ -48,8 +48,9 @@ fn three_passes(
     offsets::count_of(width, height, setting)
 }
 
-// An accepted call: the picture is copied into the result and straightened there, and the work places are cleared.
-fn straighten_accepted(
+// An accepted call: the picture is copied into the result and straightened there, and the work places are cleared. Answers how many lines were
+// interpolated.
+pub fn straighten_accepted(
     width: usize,
     height: usize,
     setting: Setting,

@@ -14,7 +14,7 @@ use Rattle.passes.specs.Picture.{Picture, Places, picture, pictured, shear, row
 use Rattle.passes.proofs.Places.{length-pictured, picture-pictured, pictured-same}
 use Rattle.passes.proofs.Rows.{moved-row-alone}
 use Rattle.planes.specs.declared.Slices.{Slices}
-use Rattle.planes.specs.Slices.{placeIn, slice, sliceOf, Everywhere, Apart, transposed, exchanged, firstSlices}
+use Rattle.planes.specs.Slices.{placeIn, slice, sliceOf, Apart, transposed, exchanged}
 use Rattle.planes.specs.Sweep.{Straightened}
 
 -- ---- where samples stand
@@ -40,14 +40,6 @@ exchanged-apart {s} {size} g =
       apart = λ y y′ i i′ x x′ hy hy′ hi hi′ hx hx′ e.
           let a = g .apart i i′ y y′ x x′ hi hi′ hy hy′ hx hx′ (exchanged-place s i y x ∙ e ∙ sym (exchanged-place s i′ y′ x′)) in
           (a .1, a .0, a .2);
-    }
-
--- fewer slices lie apart too
-pub first-apart : {s : Slices} {size : ℕ} (n : ℕ) → n ≤ s .slices → Apart s size → Apart (firstSlices n s) size
-first-apart n few g =
-    record {
-      inside = λ i y x hi hy hx. g .inside i y x (omega arith) hy hx;
-      apart = λ i i′ y y′ x x′ hi hi′ hy hy′ hx hx′ e. g .apart i i′ y y′ x x′ (omega arith) (omega arith) hy hy′ hx hx′ e;
     }
 
 -- ---- what is made of a picture by its own samples alone

@@ -2,20 +2,21 @@
 -- place. Assumes nothing.
 use Prim.Native.Nat.{ℕ, zero, suc, _+_, _*_, _-_, _≤_, _<_}
 use mathlib.Core.Path.{_≡_, refl, sym, ap, _∙_, subst}
-use mathlib.Core.List.{List, _++_}
+use mathlib.Core.List.{List}
 use mathlib.Core.Logic.{⊎-elim}
 use native.Mathlib.Nat.{eq-or-lt-of-le, le-of-suc-le-suc}
 use native.Mathlib.Decide.{decLe}
 use native.Mathlib.Omega.{arith}
 use borrow.Rule.Slice.PartMut.{putMid, same-len-mid}
-use lib.IntN.{ℤ, pos, natAbs}
-use lib.ListN.{length, take, drop, length-take, length-drop, List·getD-append, List·getD-eq-default}
-use lib.Seq.{getD-take, getD-drop, getD-append-add, length-take-le}
+use lib.IntN.{ℤ, pos}
+use lib.ListN.{length, take, drop, length-take, length-drop, List·getD-eq-default}
+use lib.Seq.{getD-take, getD-drop}
 use Rattle.lists.specs.Line.{line}
+use Rattle.lists.proofs.Part.{part-before, part-in}
 use Rattle.passes.specs.Picture.{Picture, Places}
 use Rattle.planes.specs.declared.Slices.{Slices}
 use Rattle.planes.specs.Slices.{placeIn, slice, Everywhere, Beside, Apart, firstSlices}
-use Rattle.planes.specs.Sweep.{SlicesWithin, Treated}
+use Rattle.planes.specs.Sweep.{Treated}
 use Rattle.planes.proofs.Places.{Local}
 
 -- slice i is what f makes of it, and no other place is touched
@@ -72,30 +73,14 @@ module _ (s : Slices) (i : ℕ) (list : List ℤ) (lie : Apart s (length list)) 
       same : (j j′ : ℕ) → j ≡ 0 → j′ ≡ 0 → (q q′ : ℕ) → j * s .step + q ≡ j′ * s .step + q′ → at + q ≡ at + q′
       same j j′ ej ej′ q q′ e = ap (λ (n : ℕ). at + n) (sym (from-first (s .step) q) ∙ rw (ej, ej′) at e ∙ from-first (s .step) q′)
 
-  pub lent-within : (M : ℕ) → Places (s .columns) (s .rows) (λ y x. natAbs (slice s list i y x) ≤ M) → SlicesWithin (firstSlices 1 s) M lent
-  lent-within M small j y x hj hy hx =
-      let e : j ≡ 0 = omega arith in
-      rw (e, lent-slice y x hy hx) (small y x hy hx)
-
   -- ---- and comes back to its place
   module _ (f : Picture → Picture) (part : List ℤ) (long : length part ≡ length lent) (alone : Local (s .columns) (s .rows) f)
       (done : Treated (λ j. f) (firstSlices 1 s) lent part) where
     abbrev back : List ℤ
     back = putMid at (length list - at) list part
 
-    front-long : length (take at list) ≡ at
-    front-long = length-take-le at list begins
-
     back-part : (q : ℕ) → q < length list - at → line back (at + q) ≡ line part q
-    back-part q l =
-        ap (λ (n : ℕ). line back (n + q)) (sym front-long)
-        ∙ getD-append-add (take at list) (part ++ drop (length list - at) (drop at list)) q (pos 0)
-        ∙ List·getD-append part (drop (length list - at) (drop at list)) (pos 0) q (omega (arith, long, lent-long))
-
-    back-front : (p : ℕ) → p < at → line back p ≡ line list p
-    back-front p l =
-        List·getD-append (take at list) (part ++ drop (length list - at) (drop at list)) (pos 0) p (omega (arith, front-long))
-        ∙ getD-take at list p (pos 0) l
+    back-part q l = part-in at (length list - at) list part (pos 0) (omega (arith, begins)) (long ∙ lent-long) q l
 
     pub treated-back : TreatedAt f s i list back
     treated-back =
@@ -121,7 +106,7 @@ module _ (s : Slices) (i : ℕ) (list : List ℤ) (lie : Apart s (length list)) 
 
         elsewhere : (p : ℕ) → Places (s .columns) (s .rows) (λ y x. p ≡ placeIn s i y x → ⊥) → Dec (at ≤ p) → line back p ≡ line list p
         elsewhere p none (yes h) = again p (p - at) (omega arith) none (decLe (length list - at) (p - at))
-        elsewhere p none (no h) = back-front p (omega arith)
+        elsewhere p none (no h) = part-before at (length list - at) list part (pos 0) (omega (arith, begins)) (long ∙ lent-long) p (omega arith)
 
 -- ---- one slice after the other
 pub treated-none : (f : ℕ → Picture → Picture) (s : Slices) (list : List ℤ) → Treated f (firstSlices 0 s) list list

@@ -10,7 +10,7 @@ ghost use lib.ListN.{length};
 ghost use Rattle.kernels.specs.Kernel.{kernelOf};
 ghost use Rattle.passes.specs.Picture.{shear};
 ghost use Rattle.offsets.specs.Moves.{Slight};
-ghost use Rattle.planes.specs.Slices.{transposed, exchanged, firstSlices};
+ghost use Rattle.planes.specs.Slices.{transposed, exchanged};
 ghost use Rattle.planes.specs.Sweep.{SlicesWithin, movesAt, moveAt, Swept, Sweepable, Straightened, Workable};
 use offsets::Moves;
 use settings::Border;
@@ -52,20 +52,6 @@ fn exchanged(s: Slices) -> Slices
         along: s.along,
         across: s.step,
         step: s.across,
-    }
-}
-
-// The first slice alone.
-fn alone(s: Slices) -> Slices
-    ensures { λ r. ⌜ r ≡ firstSlices 1 s ⌝ }
-{
-    Slices {
-        columns: s.columns,
-        rows: s.rows,
-        slices: 1,
-        along: s.along,
-        across: s.across,
-        step: s.step,
     }
 }
 
@@ -139,8 +125,8 @@ fn sweep(
     sweep_slices(list, work, s, false, border, kernel, a, c);
 }
 
-// Rows, columns, rows, each of all slices before the next.
-fn straighten_together(list: &mut [i32], work: &mut [i32], s: Slices, setting: Setting)
+// Every slice straightened where it lies: rows, columns and rows again, each of all slices before the next.
+pub fn straighten_slices(list: &mut [i32], work: &mut [i32], s: Slices, setting: Setting)
     requires { ⌜ Workable s setting (length (now list)) (length (now work)) ⌝ }
     requires { ⌜ SlicesWithin s 32767 (now list) ⌝ }
     ensures { λ _. ⌜ Straightened s setting (now (list .entry)) (now (list .exit)) ⌝ }
@@ -154,23 +140,4 @@ fn straighten_together(list: &mut [i32], work: &mut [i32], s: Slices, setting: S
     sweep(list, work, s, border, kernel, a, cy);
     sweep(list, work, transposed(s), border, kernel, b, cx);
     sweep(list, work, s, border, kernel, a, cy);
-}
-
-// Every slice straightened where it lies. Slices that lie within each other are straightened together, those that lie apart one after the other, so that a
-// slice is still near when its next pass comes.
-pub fn straighten_slices(list: &mut [i32], work: &mut [i32], s: Slices, setting: Setting)
-    requires { ⌜ Workable s setting (length (now list)) (length (now work)) ⌝ }
-    requires { ⌜ SlicesWithin s 32767 (now list) ⌝ }
-    ensures { λ _. ⌜ Straightened s setting (now (list .entry)) (now (list .exit)) ⌝ }
-{
-    if s.step < s.across {
-        straighten_together(list, work, s, setting);
-        return;
-    }
-    let mut i: usize = 0;
-    while i < s.slices {
-        let at = i * s.step;
-        straighten_together(&mut list[at..], work, alone(s), setting);
-        i += 1;
-    }
 }

@@ -12,7 +12,7 @@ use Rattle.acceptance.specs.Judge.{judgedSetting}
 use Rattle.planes.specs.declared.Slices.{Slices}
 use Rattle.blocks.specs.Block.{slicesOf}
 use Rattle.blocks.specs.Judge.{badSides, badPlane, tooShort, roomOf, judged}
-use Rattle.blocks.proofs.Accepted.{sides-good, sides-of, long-enough, only-samples}
+use Rattle.blocks.proofs.Accepted.{Side, sides-good, sides-of, long-enough, only-samples}
 use Rattle.blocks.proofs.judge.Statement.{statement}
 use Rattle.blocks.proofs.judge.Tie as tie
 
@@ -64,7 +64,7 @@ setting-is c =
     c .judge-setting .ensures ∙ ap (λ (t : Slices). judgedSetting (t .columns) (t .rows) (s .args .setting)) (lies (c .before .before .before .before))
 
 -- the sides are within 128
-sides : (c : tie.Else3) → let a = start3 c .args in ((1 ≤ a .width) × (a .width ≤ 128)) × ((1 ≤ a .height) × (a .height ≤ 128)) × ((1 ≤ a .depth) × (a .depth ≤ 128))
+sides : (c : tie.Else3) → let a = start3 c .args in Side (a .width) × Side (a .height) × Side (a .depth)
 sides c = sides-good _ _ _ (no1 (c .before .before .before .before .before))
 
 bad-sides-requires : tie.Need-bad-sides-requires
