@@ -13,7 +13,7 @@ use Rattle.arith.specs.Whole.{minℤ, maxℤ}
 use Rattle.lists.specs.declared.Extremes.{Extremes}
 use Rattle.lists.specs.Line.{Line, line}
 use Rattle.lists.specs.Ends.{smallest, largest, extremesOf}
-use Rattle.lists.proofs.Ends.{picked-same, smallest-rows, largest-rows}
+use Rattle.lists.proofs.Ends.{picked-same, Cover, smallest-groups, largest-groups, smallest-rows, largest-rows}
 use Rattle.refusals.specs.declared.Verdict.{Verdict}
 use Rattle.refusals.specs.declared.Verdict.the-variants.{Accepted, Refused}
 use Rattle.refusals.specs.Tests.{AllWithin}
@@ -35,7 +35,6 @@ use Rattle.blocks.specs.declared.Outcome.the-variants as variants
 use Rattle.blocks.specs.Block.{slicesOf, sliceAt, rowAt, columnAt, straightSlice, straightenBlock}
 use Rattle.blocks.specs.Judge.{roomOf, Fit}
 use Rattle.blocks.specs.Answer.{numberOf, depthOf, rowOf, columnOf, refusedAt, countOver, sliceRows, smallestOver, largestOver, sliceOutcome, verdictOf, Answered, Answer}
-use Rattle.blocks.proofs.Ends.{Cover, smallest-groups, largest-groups}
 use Rattle.blocks.proofs.Planes.{stands, slices-whole}
 use Rattle.blocks.proofs.Straight.{third-slice, straight-slice, block-slice}
 use Rattle.blocks.proofs.Accepted.{Side, sides-of, accepted-fit, zero-accepted, BadSample, refused-sample}

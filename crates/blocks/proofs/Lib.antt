@@ -1,5 +1,4 @@
 -- Laws of the block call.
---     Ends       numbers in groups: the smallest over all groups of the smallest in each is the smallest of all, the largest likewise
 --     Planes     the slices of each plane are the whole block, and every place is in the slice, the row and the column that the definitions say
 --     Straight   a block straightened: what stands at each place, and that its slices are the single picture's three passes
 --     Pictures   the pictures of a block straightened one after the other, which are its slices in plane 0
@@ -7,7 +6,6 @@
 --     Call       what makes up the answer, refused and accepted; what number 0 says, and what depth, row and column name
 --     TwoCalls   the same call twice, and a block call with the single call on one of its slices
 --     Examples   slices, work places, verdicts and small blocks straightened, computed
-pub mod Ends
 pub mod Planes
 pub mod Straight
 pub mod Pictures

@@ -1,9 +1,8 @@
 -- What a call on a block and the single call on one of its slices promise together holds of the structs that C and Rust receive. Assumes nothing.
-use Prim.Native.Nat.{ℕ, _*_, _≤_}
+use Prim.Native.Nat.{ℕ}
 use mathlib.Core.Path.{_≡_, sym, ap, _∙_}
 use mathlib.Core.List.{List}
 use lib.IntN.{ℤ}
-use lib.ListN.{length}
 use Rattle.blocks.specs.Answer.{numberOf}
 use Rattle.blocks.specs.Block.{slicesOf}
 use Rattle.blocks.specs.Judge.{roomOf, workPlaces}

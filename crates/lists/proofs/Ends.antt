@@ -1,5 +1,6 @@
 -- The smallest is not above any of the numbers and is one of them; the largest is not below any and is one of them. Both by one law, over
--- the pick of two. A number added to every sample is added to them. Those of the rows of a picture are those of all its samples. Assumes nothing.
+-- the pick of two. A number added to every sample is added to them. Those of groups of samples are those of all the samples, and so are those of the rows
+-- of a picture. Assumes nothing.
 use Prim.Native.Nat.{ℕ, zero, suc, _+_, _*_, _/_, _%_, _≤_, _<_}
 use mathlib.Core.Path.{_≡_, refl, sym, ap₂, _∙_, subst}
 use mathlib.Core.Logic.{_⊎_, inl, inr, ⊎-elim}
@@ -153,7 +154,25 @@ module _ (c : ℤ) (f g : Line) (n : ℕ) (some : 1 ≤ n) (each : (k : ℕ) →
       both : (x y c : ℤ) → maxℤ (x +ℤ c) (y +ℤ c) ≡ maxℤ x y +ℤ c
       both = all3 _ (simp bridge (omega arith))
 
--- ---- rows
+-- ---- groups of one size, whose numbers are those of a line, in whatever order they stand there
+-- v is one of the first n numbers of a line, and one of the first n of one of m lines
+pub record Among (f : Line) (n : ℕ) (v : ℤ) : Type 0 where
+  pub place : ℕ
+  pub inside : place < n
+  pub there : v ≡ f place
+
+pub record InGroups (groups : ℕ → Line) (m n : ℕ) (v : ℤ) : Type 0 where
+  pub group : ℕ
+  pub place : ℕ
+  pub group-inside : group < m
+  pub inside : place < n
+  pub there : v ≡ groups group place
+
+-- m groups of n numbers each hold just the numbers of a line
+pub record Cover (groups : ℕ → Line) (m n : ℕ) (all : Line) (size : ℕ) : Type 0 where
+  pub each : (i k : ℕ) → i < m → k < n → Among all size (groups i k)
+  pub every : (p : ℕ) → p < size → InGroups groups m n (all p)
+
 module _ (of : ℤ → ℤ → ℤ) (R : ℤ → ℤ → Type 0) (R-trans : (x y z : ℤ) → R x y → R y z → R x z) (R-antisym : (x y : ℤ) → R x y → R y x → x ≡ y)
     (picked-extreme : (f : Line) (n : ℕ) → 1 ≤ n → Extreme R f n (picked of f n)) where
   -- there is one
@@ -161,28 +180,54 @@ module _ (of : ℤ → ℤ → ℤ) (R : ℤ → ℤ → Type 0) (R-trans : (x y
   extreme-only f n v w e d =
       R-antisym v w (subst (R v) (sym (d .there)) (e .each (d .place) (d .inside))) (subst (R w) (sym (e .there)) (d .each (e .place) (e .inside)))
 
-  module _ (W H : ℕ) (rows : ℕ → Line) (hW : 1 ≤ W) (hH : 1 ≤ H) where
-    -- the pick of H rows of W, each by its own pick, is extreme among all W·H, one row after the other
-    extreme-rows : Extreme R (λ i. rows (i / W) (i % W)) (W * H) (picked of (λ y. picked of (rows y) W) H)
-    extreme-rows =
-        let e = picked-extreme (λ y. picked of (rows y) W) H hH in
-        let row : (y : ℕ) → Extreme R (rows y) W (picked of (rows y) W) = λ y. picked-extreme (rows y) W hW in
+  module _ {groups : ℕ → Line} {m n : ℕ} {all : Line} {size : ℕ} (some-groups : 1 ≤ m) (some : 1 ≤ n) (c : Cover groups m n all size) where
+    abbrev best : ℕ → ℤ
+    best i = picked of (groups i) n
+
+    -- the pick of the picks is extreme among all, and so it is their pick
+    extreme-groups : Extreme R all size (picked of best m)
+    extreme-groups =
+        let e = picked-extreme best m some-groups in
+        let own : (i : ℕ) → Extreme R (groups i) n (best i) = λ i. picked-extreme (groups i) n some in
+        let a = c .each (e .place) (own (e .place) .place) (e .inside) (own (e .place) .inside) in
         record {
-          each = λ i l. R-trans _ _ (rows (i / W) (i % W)) (e .each (i / W) (div-lt-iff-lt-mul hW .1 (omega (arith, mul-comm W H)))) (row (i / W) .each (i % W) (mod-lt i hW));
-          place = e .place * W + row (e .place) .place;
-          inside = omega (arith, row-in W H (e .place) (e .inside), row (e .place) .inside, mul-comm W H);
-          there = e .there ∙ row (e .place) .there ∙ sym (ap₂ rows (digits-div (e .place) (row (e .place) .inside)) (digits-mod (e .place) (row (e .place) .inside)));
+          each = λ p l.
+              let g = c .every p l in
+              subst (R (picked of best m)) (sym (g .there)) (R-trans _ _ _ (e .each (g .group) (g .group-inside)) (own (g .group) .each (g .place) (g .inside)));
+          place = a .place;
+          inside = a .inside;
+          there = e .there ∙ own (e .place) .there ∙ a .there;
         }
 
-    -- so where the rows hold the samples of s, it is the pick of s
-    picked-rows : (s : Line) → ((i : ℕ) → i < W * H → rows (i / W) (i % W) ≡ s i) → picked of (λ y. picked of (rows y) W) H ≡ picked of s (W * H)
-    picked-rows s same =
-        extreme-only (λ i. rows (i / W) (i % W)) (W * H) _ _ extreme-rows (picked-extreme (λ i. rows (i / W) (i % W)) (W * H) (mul-pos hW hH))
-        ∙ picked-same of (λ i. rows (i / W) (i % W)) s (W * H) (mul-pos hW hH) same
+    picked-groups : 1 ≤ size → picked of best m ≡ picked of all size
+    picked-groups many = extreme-only all size _ _ extreme-groups (picked-extreme all size many)
 
+module _ {groups : ℕ → Line} {m n : ℕ} {all : Line} {size : ℕ} (some-groups : 1 ≤ m) (some : 1 ≤ n) (many : 1 ≤ size) (c : Cover groups m n all size) where
+  pub smallest-groups : smallest (λ i. smallest (groups i) n) m ≡ smallest all size
+  smallest-groups = picked-groups minℤ (λ x y. x ≤ℤ y) (λ x y z h k. ≤ℤ-trans h k) (λ x y h k. ≤ℤ-antisym h k) smallest-is some-groups some c many
+
+  pub largest-groups : largest (λ i. largest (groups i) n) m ≡ largest all size
+  largest-groups = picked-groups maxℤ (λ x y. y ≤ℤ x) (λ x y z h k. ≤ℤ-trans k h) (λ x y h k. ≤ℤ-antisym k h) largest-is some-groups some c many
+
+-- ---- rows are groups, where they hold the samples of s one row after the other
 module _ (W H : ℕ) (rows : ℕ → Line) (s : Line) (hW : 1 ≤ W) (hH : 1 ≤ H) (same : (i : ℕ) → i < W * H → rows (i / W) (i % W) ≡ s i) where
+  row-groups : Cover rows H W s (W * H)
+  row-groups =
+      record {
+        each = λ y x hy hx.
+            let l : y * W + x < W * H = omega (arith, row-in W H y hy, mul-comm W H) in
+            record { place = y * W + x; inside = l; there = sym (ap₂ rows (digits-div y hx) (digits-mod y hx)) ∙ same (y * W + x) l };
+        every = λ p l. record {
+          group = p / W;
+          place = p % W;
+          group-inside = div-lt-iff-lt-mul hW .1 (omega (arith, mul-comm W H));
+          inside = mod-lt p hW;
+          there = sym (same p l);
+        };
+      }
+
   pub smallest-rows : smallestInRows W H rows ≡ smallest s (W * H)
-  smallest-rows = picked-rows minℤ (λ x y. x ≤ℤ y) (λ x y z h k. ≤ℤ-trans h k) (λ x y h k. ≤ℤ-antisym h k) smallest-is W H rows hW hH s same
+  smallest-rows = smallest-groups hH hW (mul-pos hW hH) row-groups
 
   pub largest-rows : largestInRows W H rows ≡ largest s (W * H)
-  largest-rows = picked-rows maxℤ (λ x y. y ≤ℤ x) (λ x y z h k. ≤ℤ-trans k h) (λ x y h k. ≤ℤ-antisym k h) largest-is W H rows hW hH s same
+  largest-rows = largest-groups hH hW (mul-pos hW hH) row-groups

@@ -1,16 +1,15 @@
 -- Slices transposed and exchanged lie apart as they did; slices with the same samples are the same, and slices that were straightened are document 01's
 -- three passes as lists. Assumes nothing.
-use Prim.Native.Nat.{ℕ, _+_, _*_, _≤_, _<_}
-use mathlib.Core.Path.{_≡_, refl, sym, ap, _∙_, subst}
+use Prim.Native.Nat.{ℕ, _*_, _<_}
+use mathlib.Core.Path.{_≡_, sym, _∙_, subst}
 use mathlib.Core.List.{List}
 use native.Mathlib.Omega.{arith}
 use lib.IntN.{ℤ}
 use lib.ListN.{length}
-use Rattle.lists.specs.Line.{line}
 use Rattle.settings.specs.declared.Border.{Border}
 use Rattle.settings.specs.declared.Setting.{Setting}
 use Rattle.kernels.specs.Kernel.{Kernel, kernelOf}
-use Rattle.passes.specs.Picture.{Picture, Places, picture, pictured, shear, rows-moved, after-one, after-two, turned, straightened, straighten}
+use Rattle.passes.specs.Picture.{Picture, Places, picture, shear, rows-moved, after-one, after-two, turned, straightened, straighten}
 use Rattle.passes.proofs.Places.{length-pictured, picture-pictured, pictured-same}
 use Rattle.passes.proofs.Rows.{moved-row-alone}
 use Rattle.planes.specs.declared.Slices.{Slices}

@@ -16,14 +16,14 @@ use Rattle.settings.specs.declared.Setting.{Setting}
 use Rattle.kernels.specs.Kernel.{Kernel}
 use Rattle.moves.specs.Border.{bordered, grey}
 use Rattle.moves.proofs.Border.{bordered-local, moveIn-at, places-few}
-use Rattle.passes.specs.Picture.{Picture, Places, turned, rows-moved, after-one, after-two, straightened}
+use Rattle.passes.specs.Picture.{Places, turned, rows-moved, after-one, after-two, straightened}
 use Rattle.passes.proofs.Reach.{after-one-range, after-two-range}
 use Rattle.shears.specs.Pass.{movedAt, linesMoved}
 use Rattle.planes.specs.declared.Slices.{Slices}
-use Rattle.planes.specs.Slices.{placeIn, slice, Everywhere, Beside, Apart, transposed, exchanged, firstSlices}
+use Rattle.planes.specs.Slices.{slice, Everywhere, Beside, Apart, transposed, exchanged}
 use Rattle.planes.specs.Sweep.{SlicesWithin, Treated, moveAt, Swept, Sweepable, Workable}
 use Rattle.planes.proofs.Places.{transposed-place, exchanged-place, transposed-apart, exchanged-apart, rows-local, columns-local}
-use Rattle.planes.proofs.Treated.{only, from-first}
+use Rattle.planes.proofs.Treated.{firstSlices, only, from-first}
 
 -- ---- one slice: its rows are the lines of a pass
 pub slice-lines : (s : Slices) (size : ℕ) → Apart (firstSlices 1 s) size → Lines (s .columns) (s .rows) (s .along) (s .across) size

@@ -1,10 +1,10 @@
 -- Slices treated where they lie, one after the other: the part of the list that begins with a slice is lent to what treats it, and comes back to its
 -- place. Assumes nothing.
-use Prim.Native.Nat.{ℕ, zero, suc, _+_, _*_, _-_, _≤_, _<_}
+use Prim.Native.Nat.{ℕ, _+_, _*_, _-_, _≤_, _<_}
 use mathlib.Core.Path.{_≡_, refl, sym, ap, _∙_, subst}
 use mathlib.Core.List.{List}
 use mathlib.Core.Logic.{⊎-elim}
-use native.Mathlib.Nat.{eq-or-lt-of-le, le-of-suc-le-suc}
+use native.Mathlib.Nat.{eq-or-lt-of-le}
 use native.Mathlib.Decide.{decLe}
 use native.Mathlib.Omega.{arith}
 use borrow.Rule.Slice.PartMut.{putMid, same-len-mid}
@@ -15,9 +15,13 @@ use Rattle.lists.specs.Line.{line}
 use Rattle.lists.proofs.Part.{part-before, part-in}
 use Rattle.passes.specs.Picture.{Picture, Places}
 use Rattle.planes.specs.declared.Slices.{Slices}
-use Rattle.planes.specs.Slices.{placeIn, slice, Everywhere, Beside, Apart, firstSlices}
+use Rattle.planes.specs.Slices.{placeIn, slice, Apart}
 use Rattle.planes.specs.Sweep.{Treated}
 use Rattle.planes.proofs.Places.{Local}
+
+-- the first n slices
+abbrev pub firstSlices : ℕ → Slices → Slices
+firstSlices n s = record { columns = s .columns; rows = s .rows; slices = n; along = s .along; across = s .across; step = s .step }
 
 -- slice i is what f makes of it, and no other place is touched
 pub record TreatedAt (f : Picture → Picture) (s : Slices) (i : ℕ) (list list′ : List ℤ) : Type 0 where

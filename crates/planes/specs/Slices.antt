@@ -55,7 +55,3 @@ transposed s = record { columns = s .rows; rows = s .columns; slices = s .slices
 -- with slices for rows: slice y has row y of every slice
 abbrev pub exchanged : Slices → Slices
 exchanged s = record { columns = s .columns; rows = s .slices; slices = s .rows; along = s .along; across = s .step; step = s .across }
-
--- the first n of them
-abbrev pub firstSlices : ℕ → Slices → Slices
-firstSlices n s = record { columns = s .columns; rows = s .rows; slices = n; along = s .along; across = s .across; step = s .step }

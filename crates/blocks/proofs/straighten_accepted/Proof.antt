@@ -1,13 +1,12 @@
 -- `straighten_accepted` counts the lines of every slice, and straightens the pictures of the block or the slices of another plane. Assumes nothing.
 use Prim.Native.Nat.{ℕ, _*_, _≤_}
-use mathlib.Core.Path.{_≡_, sym, ap, _∙_, subst}
+use mathlib.Core.Path.{_≡_, ap, _∙_}
 use native.Mathlib.Nat.{mul-le-mul}
 use native.Mathlib.Omega.{arith}
 use Rattle.acceptance.specs.Judge.{FitSetting}
 use Rattle.planes.specs.declared.Slices.{Slices}
 use Rattle.blocks.specs.Block.{slicesOf}
-use Rattle.blocks.specs.Judge.{Fit}
-use Rattle.blocks.specs.Answer.{countIn, countOver}
+use Rattle.blocks.specs.Answer.{countOver}
 use Rattle.blocks.proofs.Call.{sides}
 use borrow.Author.Needs.{needs}
 use Rattle.blocks.proofs.straighten_accepted.Statement.{statement}

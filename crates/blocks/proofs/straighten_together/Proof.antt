@@ -13,7 +13,6 @@ use Rattle.planes.specs.declared.Slices.{Slices}
 use Rattle.planes.specs.Sweep.{Straightened}
 use Rattle.blocks.specs.Block.{slicesOf}
 use Rattle.blocks.specs.Judge.{roomOf}
-use Rattle.blocks.specs.Answer.{countIn}
 use Rattle.blocks.proofs.Straight.{straightened-block}
 use Rattle.blocks.proofs.Call.{sides, few-places, fit-workable, copy-within}
 use Rattle.blocks.proofs.straighten_together.Statement.{statement}

@@ -1,4 +1,3 @@
-use mathlib.Core.Path.{_≡_}
 -- `sweep` goes over the slices, or over the rows with slices and rows exchanged. Assumes nothing.
 use mir.Facts.{toZ-ofZ}
 use Rattle.planes.proofs.Three.{exchanged-within, exchanged-sweepable, exchanged-swept}

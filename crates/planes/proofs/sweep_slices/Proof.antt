@@ -1,24 +1,20 @@
-use Rattle.planes.proofs.Treated.{begins, lent-place, lent-apart, treated-back, treated-none, treated-more, to-come}
-use Rattle.planes.proofs.Places.{rows-local}
-use Rattle.planes.proofs.Three.{slice-lines, passed-treated}
-use Rattle.planes.proofs.Treated.{begins, treated-none}
 -- `sweep_slices` goes from slice to slice, and lends the part of the list that begins with each to a pass. Assumes nothing.
-use Prim.Native.Nat.{ℕ, _+_, _*_, _-_, _≤_, _<_}
-use mathlib.Core.Path.{_≡_, refl, sym, ap, _∙_, subst}
-use mathlib.Core.List.{List}
+use Prim.Native.Nat.{ℕ, _*_, _-_, _≤_, _<_}
+use mathlib.Core.Path.{_≡_, refl, sym, _∙_, subst}
 use native.Mathlib.Omega.{arith}
 use borrow.Author.Needs.{needs}
 use borrow.Rule.Slice.PartMut.{same-len-mid}
-use lib.IntN.{ℤ}
 use lib.ListN.{length}
 use mir.Syntax.{w32}
 use mir.Val.{toZ, ofZ}
 use mir.Facts.{toZ-ofZ}
 use Rattle.kernels.specs.Kernel.{kernelOf}
 use Rattle.passes.specs.Picture.{Places, rows-moved}
-use Rattle.planes.specs.declared.Slices.{Slices}
-use Rattle.planes.specs.Slices.{slice, Apart, firstSlices}
-use Rattle.planes.specs.Sweep.{moveAt, Swept, Sweepable}
+use Rattle.planes.specs.Slices.{slice, Apart}
+use Rattle.planes.specs.Sweep.{moveAt, Swept}
+use Rattle.planes.proofs.Treated.{firstSlices, begins, lent-place, lent-apart, treated-back, treated-none, treated-more, to-come}
+use Rattle.planes.proofs.Places.{rows-local}
+use Rattle.planes.proofs.Three.{slice-lines, passed-treated}
 use Rattle.planes.proofs.sweep_slices.Statement.{statement}
 use Rattle.planes.proofs.sweep_slices.Tie as tie
 
