@@ -53,6 +53,10 @@ module _ {W H D plane : ℕ} {set : Setting} {block : List ℤ} {places room : �
   pub sides : Side (s .columns) × Side (s .rows) × Side (s .slices)
   sides = sides-of W H D plane (f .width) (f .height) (f .depth)
 
+  -- the same as computed, with what its setting has passed
+  pub sides-as : (t : Slices) → t ≡ s → ((t .columns ≤ 128) × (t .rows ≤ 128) × (t .slices ≤ 128)) × singly.FitSetting (t .columns) (t .rows) set
+  sides-as t e = rw e ((sides .0 .1, sides .1 .1, sides .2 .1), f .setting)
+
   pub whole : Whole s size
   whole = slices-whole W H D (f .width .0) (f .height .0) plane
 

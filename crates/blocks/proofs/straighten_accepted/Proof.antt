@@ -1,24 +1,15 @@
 -- `straighten_accepted` counts the lines of every slice, and straightens the pictures of the block or the slices of another plane. Assumes nothing.
-use Prim.Native.Nat.{ℕ, _*_, _≤_}
+use Prim.Native.Nat.{ℕ, _*_}
 use mathlib.Core.Path.{_≡_, ap, _∙_}
 use native.Mathlib.Nat.{mul-le-mul}
 use native.Mathlib.Omega.{arith}
-use Rattle.acceptance.specs.Judge.{FitSetting}
 use Rattle.planes.specs.declared.Slices.{Slices}
 use Rattle.blocks.specs.Block.{slicesOf}
 use Rattle.blocks.specs.Answer.{countOver}
-use Rattle.blocks.proofs.Call.{sides}
+use Rattle.blocks.proofs.Call.{sides-as}
 use borrow.Author.Needs.{needs}
 use Rattle.blocks.proofs.straighten_accepted.Statement.{statement}
 use Rattle.blocks.proofs.straighten_accepted.Tie as tie
-
--- the sides of the plane, and of how many slices there are, as computed
-plane-sides : (c : tie.After-slices-of)
-    → let t = c .slices-of .result in ((t .columns ≤ 128) × (t .rows ≤ 128) × (t .slices ≤ 128)) × FitSetting (t .columns) (t .rows) (c .before .args .setting)
-plane-sides c =
-    let f = c .before .pre in
-    let d = sides f in
-    rw (c .slices-of .ensures) ((d .0 .1, d .1 .1, d .2 .1), f .setting)
 
 -- every slice has as many lines to interpolate
 counted : (c : tie.After-count-of)
@@ -33,16 +24,21 @@ slices-of-requires : tie.Need-slices-of-requires
 slices-of-requires c κs = search needs
 
 cast-lines : tie.Need-cast-lines
-cast-lines c = omega (arith, plane-sides (c .before) .0 .2)
+cast-lines c =
+    let s = c .before in
+    omega (arith, sides-as (s .before .pre) (s .slices-of .result) (s .slices-of .ensures) .0 .2)
 
 count-of-requires : tie.Need-count-of-requires
 count-of-requires c κs =
-    let p = plane-sides (c .before) in
+    let s = c .before in
+    let p = sides-as (s .before .pre) (s .slices-of .result) (s .slices-of .ensures) in
     let f = p .1 in
     ((omega (arith, p .0 .0), omega (arith, p .0 .1), f .centre .0, f .centre .1), f .shears)
 
 mul-lines : tie.Need-mul-lines
-mul-lines c = let p = plane-sides (c .before .before) in omega (arith, mul-le-mul (p .0 .2) (c .count-of .ensures .1))
+mul-lines c =
+    let s = c .before .before in
+    omega (arith, mul-le-mul (sides-as (s .before .pre) (s .slices-of .result) (s .slices-of .ensures) .0 .2) (c .count-of .ensures .1))
 
 straighten-pictures-requires : tie.Need-straighten-pictures-requires
 straighten-pictures-requires c κs =

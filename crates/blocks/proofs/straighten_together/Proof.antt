@@ -8,13 +8,12 @@ use borrow.Author.Needs.{needs}
 use lib.IntN.{ℤ, pos}
 use lib.ListN.{length, take, drop, replicate, length-append}
 use lib.Seq.{length-take-le, take-at, drop-at}
-use Rattle.acceptance.specs.Judge.{FitSetting}
 use Rattle.planes.specs.declared.Slices.{Slices}
 use Rattle.planes.specs.Sweep.{Straightened}
 use Rattle.blocks.specs.Block.{slicesOf}
 use Rattle.blocks.specs.Judge.{roomOf}
 use Rattle.blocks.proofs.Straight.{straightened-block}
-use Rattle.blocks.proofs.Call.{sides, few-places, fit-workable, copy-within}
+use Rattle.blocks.proofs.Call.{sides, sides-as, few-places, fit-workable, copy-within}
 use Rattle.blocks.proofs.straighten_together.Statement.{statement}
 use Rattle.blocks.proofs.straighten_together.Tie as tie
 
@@ -55,14 +54,6 @@ roomy c = subst (λ (n : ℕ). n ≤ length (c .before .before .args .work .now)
 lent : (c : tie.After-room-of) → length (take (c .room-of .result) (c .before .before .args .work .now)) ≡ c .room-of .result
 lent c = length-take-le (c .room-of .result) (c .before .before .args .work .now) (roomy c)
 
--- the sides of the plane, and of how many slices there are, as computed
-plane-sides : (c : tie.After-slices-of)
-    → let t = c .slices-of .result in ((t .columns ≤ 128) × (t .rows ≤ 128) × (t .slices ≤ 128)) × FitSetting (t .columns) (t .rows) (c .before .args .setting)
-plane-sides c =
-    let f = c .before .pre in
-    let d = sides f in
-    rw (c .slices-of .ensures) ((d .0 .1, d .1 .1, d .2 .1), f .setting)
-
 -- what is left of the lent part is the block's slices, straightened
 straight : (c : tie.After-straighten-slices)
     → let s = copy-start (swept-copy c) in Straightened (lie s) (s .args .setting) (take (places s) (s .args .block .now)) (c .straighten-slices .last .0)
@@ -83,7 +74,7 @@ slices-of-requires : tie.Need-slices-of-requires
 slices-of-requires c κs = search needs
 
 room-of-requires : tie.Need-room-of-requires
-room-of-requires c κs = let d = plane-sides c .0 in (omega (arith, d .0), omega (arith, d .1))
+room-of-requires c κs = let d = sides-as (c .before .pre) (c .slices-of .result) (c .slices-of .ensures) .0 in (omega (arith, d .0), omega (arith, d .1))
 
 copy-requires : tie.Need-copy-requires
 copy-requires c κs = search needs
