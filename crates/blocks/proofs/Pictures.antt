@@ -1,32 +1,39 @@
 -- The pictures of a block straightened one after the other: what stands before and after the next one, and that the last leaves the block straightened in
 -- plane 0. Assumes nothing.
-use Prim.Native.Nat.{ℕ, _+_, _*_, _-_, _≤_, _<_, max}
-use mathlib.Core.Path.{_≡_, refl, sym, ap, _∙_, subst}
+use Prim.Native.Nat.{ℕ, _+_, _*_, _-_, _/_, _%_, _≤_, _<_, max}
+use mathlib.Core.Path.{_≡_, refl, sym, ap, ap₂, _∙_, subst}
 use mathlib.Core.List.{List, _++_}
-use native.Mathlib.Nat.{div-add-mod', mul-comm, mul-le-mul-right}
+use native.Mathlib.Nat.{div-add-mod', mul-comm, mul-pos, mul-le-mul-right}
 use native.Mathlib.Decide.{decLe}
 use native.Mathlib.Omega.{arith}
 use borrow.Rule.Slice.PartMut.{putMid}
-use lib.IntN.{ℤ, pos}
+use lib.IntN.{ℤ, pos, negsuc, natAbs}
 use lib.ListN.{length, take, drop, length-take, length-drop, length-append, List·getD-append}
 use lib.Seq.{ext-getD, getD-take, getD-drop, getD-append-add}
 use Rattle.lists.specs.Tab.{tab}
 use Rattle.lists.specs.Line.{line}
+use Rattle.arith.specs.Whole.{minℤ, maxℤ}
+use Rattle.lists.specs.declared.Extremes.{Extremes}
+use Rattle.lists.specs.Ends.{extremesOf, joinedOf, smallestInRows, largestInRows}
+use Rattle.lists.proofs.Ends.{pickedFrom, from-none, from-more, from-picked, smallest-is, largest-is, min-never, max-never, min-same, max-same, extreme-has, smallest-rows, largest-rows}
 use Rattle.lists.proofs.Tab.{tab-length, tab-at}
 use Rattle.lists.proofs.Part.{part-before, part-in}
 use Rattle.settings.specs.declared.Setting.{Setting}
 use Rattle.passes.specs.Picture.{picture, Places, straightened, straighten}
 use Rattle.passes.proofs.Places.{inside, at-index, straighten-at}
+use Rattle.passes.proofs.Reach.{straighten-size}
 use Rattle.acceptance.specs.Judge as singly
 use Rattle.planes.specs.declared.Slices.{Slices}
-use Rattle.planes.specs.Slices.{placeIn, slice}
+use Rattle.planes.specs.Slices.{placeIn, slice, sliceOf}
 use Rattle.planes.proofs.Places.{straightened-local}
 use Rattle.pictures.specs.Answer.{kernelIn, rowMoves, columnMoves}
 use Rattle.pictures.proofs.Call.{straighten-length}
 use Rattle.blocks.specs.Block.{slicesOf, straightSlice, straightenBlock}
 use Rattle.blocks.specs.Judge.{Fit}
 use Rattle.blocks.proofs.Planes.{known-at}
-use Rattle.blocks.proofs.Straight.{straight}
+use Rattle.blocks.specs.Answer.{sliceRows}
+use Rattle.blocks.proofs.Straight.{straight, third-slice}
+use Rattle.blocks.proofs.Call.{slice-range, smallest-over, largest-over}
 
 -- the first n places of a list hold g, the others what they held
 pub record Placed (g : ℕ → ℤ) (n : ℕ) (list list′ : List ℤ) : Type 0 where
@@ -128,6 +135,15 @@ module _ (W H D : ℕ) (set : Setting) (block : List ℤ) (hW : 0 < W) (hH : 0 <
   lent-slice y x hy hx =
       getD-take n lent (y * W + x) (pos 0) (inside W H y x hy hx) ∙ lent-at (y * W + x) (inside W H y x hy hx) ∙ ap (line block) (place-in y x)
 
+  -- row by row, slice z stands there straightened
+  placed-at : (q : ℕ) → q < n → straightSlice s set block z (q / W) (q % W) ≡ straight W H D 0 set block (at + q)
+  placed-at q l =
+      at-index (λ y x. straightSlice s set block z y x ≡ straight W H D 0 set block (at + (y * W + x))) hW known q l
+      ∙ ap (λ (k : ℕ). straight W H D 0 set block (at + k)) (div-add-mod' q W)
+    where
+      known : Places W H (λ y x. straightSlice s set block z y x ≡ straight W H D 0 set block (at + (y * W + x)))
+      known y x hy hx = let k = known-at W H D hW hH 0 z y x hz hy hx in rw (place-in y x, k .0, k .1, k .2) refl
+
   -- so what the single picture's three passes leave of it is what stands there
   pub picture-placed : (rest : List ℤ) (q : ℕ) → q < n
       → line (straighten (set .border) (kernelIn set) W H (rowMoves set) (columnMoves set) (take n lent) ++ rest) q ≡ straight W H D 0 set block (at + q)
@@ -136,14 +152,10 @@ module _ (W H D : ℕ) (set : Setting) (block : List ℤ) (hW : 0 < W) (hH : 0 <
       ∙ straighten-at (set .border) (kernelIn set) W H (rowMoves set) (columnMoves set) (take n lent) q l
       ∙ at-index (λ y x. straightened (set .border) (kernelIn set) W H (rowMoves set) (columnMoves set) (picture W (take n lent)) y x ≡ straightSlice s set block z y x) hW
       (straightened-local (set .border) (kernelIn set) W H (rowMoves set) (columnMoves set) hW hH (picture W (take n lent)) (slice s block z) lent-slice) q l
-      ∙ at-index (λ y x. straightSlice s set block z y x ≡ straight W H D 0 set block (at + (y * W + x))) hW known q l
-      ∙ ap (λ (k : ℕ). straight W H D 0 set block (at + k)) (div-add-mod' q W)
+      ∙ placed-at q l
     where
       passed : List ℤ
       passed = straighten (set .border) (kernelIn set) W H (rowMoves set) (columnMoves set) (take n lent)
-
-      known : Places W H (λ y x. straightSlice s set block z y x ≡ straight W H D 0 set block (at + (y * W + x)))
-      known y x hy hx = let k = known-at W H D hW hH 0 z y x hz hy hx in rw (place-in y x, k .0, k .1, k .2) refl
 
   -- with it one picture more is straightened
   pub next-placed : (list now part : List ℤ) → length now ≡ length list → W * H * D ≤ length list → Placed (straight W H D 0 set block) at list now
@@ -179,6 +191,84 @@ module _ (W H D : ℕ) (set : Setting) (block : List ℤ) (hW : 0 < W) (hH : 0 <
         setting = f .setting;
         samples = λ q l. rw (lent-at q l) (f .samples (at + q) (omega (arith, ends)));
       }
+
+  -- its extremes, once it stands straightened in a list, are those of its rows of pass 3
+  module _ (list list′ : List ℤ) (long : W * H * D ≤ length list′) (done : Placed (straight W H D 0 set block) ((z + 1) * n) list list′) where
+    abbrev own : List ℤ
+    own = take (length list′ - at) (drop at list′)
+
+    third-placed : (q : ℕ) → q < n → sliceRows s set block z (q / W) (q % W) ≡ line own q
+    third-placed q l =
+        at-index (λ y x. sliceRows s set block z y x ≡ straightSlice s set block z y x) hW (third-slice s set hW hH block z) q l
+        ∙ placed-at q l
+        ∙ sym (getD-take (length list′ - at) (drop at list′) q (pos 0) (omega (arith, ends, long)) ∙ getD-drop at list′ q (pos 0) ∙ done .front (at + q) (below z n q l))
+      where
+        below : (z n q : ℕ) → q < n → z * n + q < (z + 1) * n
+        below z n q l = omega arith
+
+    pub picture-extremes : extremesOf n own ≡ record { smallest = smallestInRows W H (sliceRows s set block z); largest = largestInRows W H (sliceRows s set block z) }
+    picture-extremes =
+        rw (smallest-rows W H (sliceRows s set block z) (line own) hW hH third-placed, largest-rows W H (sliceRows s set block z) (line own) hW hH third-placed) refl
+
+-- ---- the extremes of the first z pictures, begun from numbers that are never picked
+abbrev pub joinedUp : ℕ → ℕ → ℕ → Setting → List ℤ → ℕ → Extremes
+joinedUp W H D set block z = record {
+  smallest = pickedFrom minℤ (pos 1048576) (λ i. smallestInRows W H (sliceRows (slicesOf W H D 0) set block i)) z;
+  largest = pickedFrom maxℤ (negsuc 1048575) (λ i. largestInRows W H (sliceRows (slicesOf W H D 0) set block i)) z;
+}
+
+abbrev both : ℤ → ℤ → Extremes
+both smallest largest = record { smallest = smallest; largest = largest }
+
+pub joined-none : (W H D : ℕ) (set : Setting) (block : List ℤ) → both (pos 1048576) (negsuc 1048575) ≡ joinedUp W H D set block 0
+joined-none W H D set block =
+    ap₂ both (from-none minℤ (pos 1048576) (λ i. smallestInRows W H (sliceRows (slicesOf W H D 0) set block i)))
+    (from-none maxℤ (negsuc 1048575) (λ i. largestInRows W H (sliceRows (slicesOf W H D 0) set block i)))
+
+pub joined-more : (W H D : ℕ) (set : Setting) (block : List ℤ) (z : ℕ)
+    → joinedOf (joinedUp W H D set block z)
+    (both (smallestInRows W H (sliceRows (slicesOf W H D 0) set block z)) (largestInRows W H (sliceRows (slicesOf W H D 0) set block z)))
+    ≡ joinedUp W H D set block (z + 1)
+joined-more W H D set block z =
+    ap₂ both (from-more minℤ (pos 1048576) (λ i. smallestInRows W H (sliceRows (slicesOf W H D 0) set block i)) z)
+    (from-more maxℤ (negsuc 1048575) (λ i. largestInRows W H (sliceRows (slicesOf W H D 0) set block i)) z)
+
+module _ {W H D : ℕ} {set : Setting} {block : List ℤ} {places room : ℕ} (f : Fit W H D 0 set block places room) where
+  abbrev first : List ℤ
+  first = straighten (set .border) (kernelIn set) W H (rowMoves set) (columnMoves set) (sliceOf (slicesOf W H D 0) block 0)
+
+  first-small : (k : ℕ) → k < W * H → natAbs (line first k) ≤ 1048576
+  first-small =
+      straighten-size (set .border) (kernelIn set) (rowMoves set) (columnMoves set) (sliceOf (slicesOf W H D 0) block 0) (f .width .0) (f .height .0) (f .setting .background)
+      (slice-range f 0 (f .depth .0))
+
+  first-rows : (k : ℕ) → k < W * H → sliceRows (slicesOf W H D 0) set block 0 (k / W) (k % W) ≡ line first k
+  first-rows k l = sym (straighten-at (set .border) (kernelIn set) W H (rowMoves set) (columnMoves set) (sliceOf (slicesOf W H D 0) block 0) k l)
+
+  -- those of all pictures are those of the result
+  pub all-joined : (result result′ : List ℤ) → result′ ≡ straightenBlock W H D 0 set block ++ drop (W * H * D) result
+      → joinedUp W H D set block D ≡ extremesOf (W * H * D) result′
+  all-joined result result′ done =
+      rw (
+        from-picked minℤ (pos 1048576) (λ i. smallestInRows W H (sliceRows (slicesOf W H D 0) set block i)) (min-never _ smallest-small) (min-same _) D (f .depth .0)
+            ∙ smallest-over f result result′ done,
+        from-picked maxℤ (negsuc 1048575) (λ i. largestInRows W H (sliceRows (slicesOf W H D 0) set block i)) (max-never _ largest-small) (max-same _) D (f .depth .0)
+            ∙ largest-over f result result′ done,
+      )
+      refl
+    where
+      some : 1 ≤ W * H
+      some = mul-pos (f .width .0) (f .height .0)
+
+      smallest-small : natAbs (smallestInRows W H (sliceRows (slicesOf W H D 0) set block 0)) ≤ 1048576
+      smallest-small =
+          subst (λ (v : ℤ). natAbs v ≤ 1048576) (sym (smallest-rows W H (sliceRows (slicesOf W H D 0) set block 0) (line first) (f .width .0) (f .height .0) first-rows))
+          (extreme-has _ (λ v. natAbs v ≤ 1048576) (line first) (W * H) _ (smallest-is (line first) (W * H) some) first-small)
+
+      largest-small : natAbs (largestInRows W H (sliceRows (slicesOf W H D 0) set block 0)) ≤ 1048576
+      largest-small =
+          subst (λ (v : ℤ). natAbs v ≤ 1048576) (sym (largest-rows W H (sliceRows (slicesOf W H D 0) set block 0) (line first) (f .width .0) (f .height .0) first-rows))
+          (extreme-has _ (λ v. natAbs v ≤ 1048576) (line first) (W * H) _ (largest-is (line first) (W * H) some) first-small)
 
 -- all of them straightened, the block is
 pub all-placed : (W H D : ℕ) (set : Setting) (block list list′ : List ℤ) → length list′ ≡ length list → W * H * D ≤ length list

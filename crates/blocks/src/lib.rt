@@ -1,13 +1,14 @@
 // The block call: pictures over time, straightened in one of three planes, 0 across and down, 1 across and depth, 2 down and depth, the first named
 // counted as columns. A block is stored picture after picture by depth; samples are in 128ths of a grey, and shears in 4,096ths.
 // The tests read the block once, but for a row with a bad sample. An accepted block is copied into the result, and its slices are straightened where they
-// lie there, in plane 0 picture by picture, else all of them together: no slice is copied out. Then the result is looked through for its extremes.
-// docs/PERFORMANCE.md says what that costs.
+// lie there, in plane 0 picture by picture, else all of them together: no slice is copied out. docs/PERFORMANCE.md says what that costs.
 ghost use mathlib.Core.Path.{_≡_};
 ghost use mathlib.Core.List.{_++_};
 ghost use Prim.Native.Nat.{_*_, _≤_, max};
 ghost use lib.IntN.{pos};
 ghost use lib.ListN.{length, drop, replicate};
+ghost use Rattle.lists.specs.Ends.{extremesOf};
+ghost use Rattle.blocks.specs.declared.Outcome.the-variants.{Straightened};
 ghost use Rattle.blocks.specs.Block.{slicesOf, straightenBlock};
 ghost use Rattle.blocks.specs.Judge.{badSides, tooShort, roomOf, workPlaces, judged, Fit};
 ghost use Rattle.blocks.specs.Answer.{refusedAt, countOver, Answer};
@@ -21,6 +22,9 @@ const RANGE: i32 = 32_767;
 
 // The most samples that a side of a block may have.
 const SIDE: usize = 128;
+
+// As far from 0 as a sample of a result can be, and as readings take: no extreme is farther.
+const FARTHEST: i32 = 1_048_576;
 
 // What a call comes to: straightened, with the number of lines interpolated over all slices and the smallest and the largest sample of the result; or
 // refused under a number, with a depth, a row and a column that are 0 except under 6.
@@ -156,7 +160,7 @@ fn refused(height: usize, number: u32, row: usize, column: usize) -> Outcome
 }
 
 // The slices of plane 0, which are the pictures of the block, straightened one after the other: each is copied into the result when its turn comes, and so
-// is near for all of its passes.
+// is near for all of its passes, and for its extremes. Answers those of all of them.
 fn straighten_pictures(
     width: usize,
     height: usize,
@@ -165,12 +169,17 @@ fn straighten_pictures(
     block: &[i32],
     result: &mut [i32],
     work: &mut [i32],
-)
+) -> Extremes
     requires { ⌜ Fit width height depth 0 setting (now block) (length (now result)) (length (now work)) ⌝ }
-    ensures { λ _. ⌜ now (result .exit) ≡ straightenBlock width height depth 0 setting (now (block .entry)) ++ drop (width * height * depth) (now (result .entry)) ⌝ }
-    ensures { λ _. ⌜ now (work .exit) ≡ replicate (12 * max width height) (pos 0) ++ drop (12 * max width height) (now (work .entry)) ⌝ }
+    ensures { λ r. ⌜ now (result .exit) ≡ straightenBlock width height depth 0 setting (now (block .entry)) ++ drop (width * height * depth) (now (result .entry)) ⌝ }
+    ensures { λ r. ⌜ now (work .exit) ≡ replicate (12 * max width height) (pos 0) ++ drop (12 * max width height) (now (work .entry)) ⌝ }
+    ensures { λ r. ⌜ r ≡ extremesOf (width * height * depth) (now (result .exit)) ⌝ }
 {
     let places = width * height;
+    let mut extremes = Extremes {
+        smallest: FARTHEST,
+        largest: 0 - FARTHEST,
+    };
     let mut z: usize = 0;
     while z < depth {
         let at = z * places;
@@ -182,12 +191,15 @@ fn straighten_pictures(
             &mut result[at..],
             work,
         );
+        let own = lists::extremes_of(&result[at..], places);
+        extremes = lists::joined(extremes, own);
         z += 1;
     }
+    extremes
 }
 
 // The slices of a plane straightened together: the block is copied into the result, its slices are straightened where they lie there, and the work places
-// are cleared.
+// are cleared. Answers the extremes of the result.
 fn straighten_together(
     width: usize,
     height: usize,
@@ -197,10 +209,11 @@ fn straighten_together(
     block: &[i32],
     result: &mut [i32],
     work: &mut [i32],
-)
+) -> Extremes
     requires { ⌜ Fit width height depth plane setting (now block) (length (now result)) (length (now work)) ⌝ }
-    ensures { λ _. ⌜ now (result .exit) ≡ straightenBlock width height depth plane setting (now (block .entry)) ++ drop (width * height * depth) (now (result .entry)) ⌝ }
-    ensures { λ _. ⌜ now (work .exit) ≡ replicate (roomOf (slicesOf width height depth plane)) (pos 0) ++ drop (roomOf (slicesOf width height depth plane)) (now (work .entry)) ⌝ }
+    ensures { λ r. ⌜ now (result .exit) ≡ straightenBlock width height depth plane setting (now (block .entry)) ++ drop (width * height * depth) (now (result .entry)) ⌝ }
+    ensures { λ r. ⌜ now (work .exit) ≡ replicate (roomOf (slicesOf width height depth plane)) (pos 0) ++ drop (roomOf (slicesOf width height depth plane)) (now (work .entry)) ⌝ }
+    ensures { λ r. ⌜ r ≡ extremesOf (width * height * depth) (now (result .exit)) ⌝ }
 {
     let places = width * height * depth;
     let s = slices_of(width, height, depth, plane);
@@ -208,9 +221,10 @@ fn straighten_together(
     lists::copy(block, result, places);
     planes::straighten_slices(&mut result[..places], &mut work[..room], s, setting);
     lists::clear(work, room);
+    lists::extremes_of(result, places)
 }
 
-// An accepted call: every slice is straightened into the result. Answers how many lines were interpolated over all slices, every one of which has as many.
+// An accepted call: every slice is straightened into the result. Every slice has as many lines to interpolate.
 fn straighten_accepted(
     width: usize,
     height: usize,
@@ -220,20 +234,20 @@ fn straighten_accepted(
     block: &[i32],
     result: &mut [i32],
     work: &mut [i32],
-) -> u32
+) -> Outcome
     requires { ⌜ Fit width height depth plane setting (now block) (length (now result)) (length (now work)) ⌝ }
     ensures { λ r. ⌜ now (result .exit) ≡ straightenBlock width height depth plane setting (now (block .entry)) ++ drop (width * height * depth) (now (result .entry)) ⌝ }
     ensures { λ r. ⌜ now (work .exit) ≡ replicate (roomOf (slicesOf width height depth plane)) (pos 0) ++ drop (roomOf (slicesOf width height depth plane)) (now (work .entry)) ⌝ }
-    ensures { λ r. ⌜ r ≡ countOver (slicesOf width height depth plane) setting ⌝ }
+    ensures { λ r. ⌜ r ≡ Straightened (countOver (slicesOf width height depth plane) setting) (extremesOf (width * height * depth) (now (result .exit))) ⌝ }
 {
     let s = slices_of(width, height, depth, plane);
     let lines = s.slices as u32 * offsets::count_of(s.columns, s.rows, setting);
     if plane == 0 {
-        straighten_pictures(width, height, depth, setting, block, result, work);
-        return lines;
+        let extremes = straighten_pictures(width, height, depth, setting, block, result, work);
+        return Outcome::Straightened(lines, extremes);
     }
-    straighten_together(width, height, depth, plane, setting, block, result, work);
-    lines
+    let extremes = straighten_together(width, height, depth, plane, setting, block, result, work);
+    Outcome::Straightened(lines, extremes)
 }
 
 // Straightens a block of `width` by `height` by `depth` samples into `result`: every slice in `plane` as a picture of its own, with the kernel, the centre,
@@ -267,19 +281,15 @@ pub fn straighten(
     );
     match verdict {
         Verdict::Refused(number, row, column) => refused(height, number, row, column),
-        Verdict::Accepted => {
-            let lines = straighten_accepted(
-                width,
-                height,
-                depth,
-                plane,
-                setting,
-                block,
-                result,
-                work,
-            );
-            let extremes = lists::extremes_of(result, width * height * depth);
-            Outcome::Straightened(lines, extremes)
-        }
+        Verdict::Accepted => straighten_accepted(
+            width,
+            height,
+            depth,
+            plane,
+            setting,
+            block,
+            result,
+            work,
+        ),
     }
 }

@@ -2,18 +2,18 @@
 -- the pick of two. A number added to every sample is added to them. Those of groups of samples are those of all the samples, and so are those of the rows
 -- of a picture. Assumes nothing.
 use Prim.Native.Nat.{ℕ, zero, suc, _+_, _*_, _/_, _%_, _≤_, _<_}
-use mathlib.Core.Path.{_≡_, refl, sym, ap₂, _∙_, subst}
+use mathlib.Core.Path.{_≡_, refl, sym, ap, ap₂, _∙_, subst}
 use mathlib.Core.Logic.{_⊎_, inl, inr, ⊎-elim}
 use native.Mathlib.Nat.{eq-or-lt-of-le, not-suc-le-zero, le-of-suc-le-suc, div-lt-iff-lt-mul, mod-lt, mul-comm, mul-pos}
 use native.Mathlib.Numerals.{add-one}
 use native.Mathlib.Omega.{arith}
 use mathlib.Core.List.{List, [], _∷_, _++_}
 use lib.Arith.{digits-div, digits-mod}
-use lib.IntN.{ℤ, pos, negsuc, _+ℤ_}
+use lib.IntN.{ℤ, pos, negsuc, natAbs, _+ℤ_}
 use lib.ListN.{length, List·getD-append}
 use lib.Signed.{_≤ℤ_}
 use Rattle.arith.specs.Whole.{minℤ, maxℤ}
-use Rattle.arith.proofs.Bridge.{bridge, all2, all3}
+use Rattle.arith.proofs.Bridge.{bridge, all1, all2, all3}
 use Rattle.arith.proofs.Laws.{≤ℤ-trans, ≤ℤ-antisym, ≤ℤ-total}
 use Rattle.lists.specs.Line.{Line, line}
 use Rattle.lists.specs.Ends.{picked, smallest, largest, extremesOf, smallestInRows, largestInRows}
@@ -39,6 +39,25 @@ picked-none of f = refl
 pub picked-more : (of : ℤ → ℤ → ℤ) (f : Line) (i : ℕ) → of (picked of f i) (f i) ≡ picked of f (i + 1)
 unfolding picked
 picked-more of f i = rw add-one refl
+
+-- the pick over f 0 .. f (n - 1), begun from a number that is never picked where there is one of these
+unfoldable pub pickedFrom : (ℤ → ℤ → ℤ) → ℤ → Line → ℕ → ℤ
+pickedFrom of v f zero = v
+pickedFrom of v f (suc n) = of (pickedFrom of v f n) (f n)
+
+pub from-none : (of : ℤ → ℤ → ℤ) (v : ℤ) (f : Line) → v ≡ pickedFrom of v f 0
+unfolding pickedFrom
+from-none of v f = refl
+
+pub from-more : (of : ℤ → ℤ → ℤ) (v : ℤ) (f : Line) (i : ℕ) → of (pickedFrom of v f i) (f i) ≡ pickedFrom of v f (i + 1)
+unfolding pickedFrom
+from-more of v f i = rw add-one refl
+
+pub from-picked : (of : ℤ → ℤ → ℤ) (v : ℤ) (f : Line) → of v (f 0) ≡ f 0 → of (f 0) (f 0) ≡ f 0 → (n : ℕ) → 1 ≤ n → pickedFrom of v f n ≡ picked of f n
+unfolding pickedFrom picked
+from-picked of v f never same zero h = absurd (not-suc-le-zero h)
+from-picked of v f never same (suc zero) h = never ∙ sym same
+from-picked of v f never same (suc (suc n)) h = ap (λ (x : ℤ). of x (f (suc n))) (from-picked of v f never same (suc n) (omega arith))
 
 -- samples that agree have the same extremes
 pub picked-same : (of : ℤ → ℤ → ℤ) (f g : Line) (n : ℕ) → 1 ≤ n → ((k : ℕ) → k < n → f k ≡ g k) → picked of f n ≡ picked of g n
@@ -126,6 +145,19 @@ largest-is f (suc n) h = picked-is maxℤ (λ x y. y ≤ℤ x) (λ x y z h k. �
   where
     either : (x y : ℤ) → (maxℤ x y ≡ x) ⊎ (maxℤ x y ≡ y)
     either x y = ⊎-elim (λ h. inr (max-low x y h)) (λ h. inl (max-high x y h)) (≤ℤ-total x y)
+
+-- a number at the end of a range is never picked among numbers within it
+pub min-never : (v : ℤ) → natAbs v ≤ 1048576 → minℤ (pos 1048576) v ≡ v
+min-never = all1 _ (simp bridge (omega arith))
+
+pub max-never : (v : ℤ) → natAbs v ≤ 1048576 → maxℤ (negsuc 1048575) v ≡ v
+max-never = all1 _ (simp bridge (omega arith))
+
+pub min-same : (v : ℤ) → minℤ v v ≡ v
+min-same = all1 _ (simp bridge (omega arith))
+
+pub max-same : (v : ℤ) → maxℤ v v ≡ v
+max-same = all1 _ (simp bridge (omega arith))
 
 -- being one of the samples, it has what they all have
 pub extreme-has : (R : ℤ → ℤ → Type 0) (P : ℤ → Type 0) (f : Line) (n : ℕ) (v : ℤ) → Extreme R f n v → ((k : ℕ) → k < n → P (f k)) → P v

@@ -21,6 +21,10 @@ largest f n = picked maxℤ f n
 abbrev pub extremesOf : ℕ → List ℤ → Extremes
 extremesOf n s = record { smallest = smallest (line s) n; largest = largest (line s) n }
 
+-- those of two groups of samples together
+abbrev pub joinedOf : Extremes → Extremes → Extremes
+joinedOf a b = record { smallest = minℤ (a .smallest) (b .smallest); largest = maxℤ (a .largest) (b .largest) }
+
 -- over H rows of W samples each: the smallest of what is smallest in a row, and the largest of what is largest in one
 abbrev pub smallestInRows : ℕ → ℕ → (ℕ → Line) → ℤ
 smallestInRows W H rows = smallest (λ y. smallest (rows y) W) H

@@ -7,7 +7,7 @@ ghost use lib.IntN.{pos};
 ghost use Rattle.arith.specs.Whole.{minℤ, maxℤ};
 ghost use Rattle.lists.specs.Line.{line, rolled};
 ghost use Rattle.lists.specs.Grid.{lineOf, put};
-ghost use Rattle.lists.specs.Ends.{extremesOf};
+ghost use Rattle.lists.specs.Ends.{extremesOf, joinedOf};
 
 // The smallest and the largest of some samples.
 pub struct Extremes {
@@ -127,4 +127,14 @@ pub fn extremes_of(samples: &[i32], n: usize) -> Extremes
         k += 1;
     }
     Extremes { smallest, largest }
+}
+
+// Those of two groups of samples together.
+pub fn joined(a: Extremes, b: Extremes) -> Extremes
+    ensures { λ r. ⌜ r ≡ joinedOf a b ⌝ }
+{
+    Extremes {
+        smallest: lesser(a.smallest, b.smallest),
+        largest: greater(a.largest, b.largest),
+    }
 }

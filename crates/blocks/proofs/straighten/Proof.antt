@@ -1,14 +1,13 @@
 -- `straighten` answers as the tests say. Assumes nothing.
 use Prim.Native.Nat.{ℕ, _≤_, _<_}
-use mathlib.Core.Path.{_≡_, sym, ap, _∙_}
-use native.Mathlib.Nat.{mul-le-mul}
+use mathlib.Core.Path.{_≡_, refl, sym, ap, _∙_}
 use native.Mathlib.Omega.{arith}
 use borrow.Author.Needs.{needs}
 use lib.ListN.{length}
 use Rattle.refusals.specs.declared.Verdict.the-variants.{Refused}
 use Rattle.blocks.specs.Judge.{judged, Fit}
 use Rattle.blocks.proofs.Accepted.{accepted-fit, refused-sample}
-use Rattle.blocks.proofs.Call.{some-places, few-places, refused-answer, accepted-answer}
+use Rattle.blocks.proofs.Call.{refused-answer, accepted-answer}
 use Rattle.blocks.proofs.straighten.Statement.{statement}
 use Rattle.blocks.proofs.straighten.Tie as tie
 
@@ -47,20 +46,6 @@ enum-told c = search needs
 straighten-accepted-requires : tie.Need-straighten-accepted-requires
 straighten-accepted-requires c κs = fit (c .before .before)
 
-mul-extremes-of : tie.Need-mul-extremes-of
-mul-extremes-of c =
-    let f = fit (c .before .before .before .before .before .before) in
-    omega (arith, mul-le-mul (f .width .1) (f .height .1))
-
-mul-extremes-of-2 : tie.Need-mul-extremes-of-2
-mul-extremes-of-2 c = omega (arith, few-places (fit (c .before .before .before .before .before .before)))
-
-extremes-of-requires : tie.Need-extremes-of-requires
-extremes-of-requires c κs =
-    let v = c .before .before .before in
-    let f = fit (v .before .before .before) in
-    (some-places f, omega (arith, f .result-places, v .straighten-accepted .kept .1 .1 .1 .1 .1 .1 .0))
-
 returns : tie.Need-returns
 returns c =
     let a = c .before .before .before .before .before .args in
@@ -76,12 +61,13 @@ same-length-2 c = search needs
 
 returns-2 : tie.Need-returns-2
 returns-2 c =
-    let v = c .before .before .before .before in
+    let v = c .before .before in
     let t = v .before .before .before in
     let a = t .before .before .before .args in
     let e = v .straighten-accepted .ensures in
-    accepted-answer _ (a .width) (a .height) (a .depth) (a .plane) (a .setting) (a .block .now) (a .result .now) (a .work .now) _ _ _ _
-    (sym (told (t .before .before)) ∙ t .enum-told .given .1) (fit t) (e .1 .1) (c .extremes-of .ensures) (e .0) (e .1 .0)
+    rw (e .1 .1)
+    (accepted-answer _ (a .width) (a .height) (a .depth) (a .plane) (a .setting) (a .block .now) (a .result .now) (a .work .now) _ _ _ _
+    (sym (told (t .before .before)) ∙ t .enum-told .given .1) (fit t) refl refl (e .0) (e .1 .0))
 
 pub straighten-spec : {M : Type 1} → statement M
 straighten-spec =
@@ -92,9 +78,6 @@ straighten-spec =
     refused-requires
     enum-told
     straighten-accepted-requires
-    mul-extremes-of
-    mul-extremes-of-2
-    extremes-of-requires
     returns
     same-length
     same-length-2

@@ -1,9 +1,10 @@
 -- `straighten_accepted` counts the lines of every slice, and straightens the pictures of the block or the slices of another plane. Assumes nothing.
 use Prim.Native.Nat.{ℕ, _*_}
-use mathlib.Core.Path.{_≡_, ap, _∙_}
+use mathlib.Core.Path.{_≡_, ap, ap₂, _∙_}
 use native.Mathlib.Nat.{mul-le-mul}
 use native.Mathlib.Omega.{arith}
 use Rattle.planes.specs.declared.Slices.{Slices}
+use Rattle.blocks.specs.declared.Outcome.the-variants.{Straightened}
 use Rattle.blocks.specs.Block.{slicesOf}
 use Rattle.blocks.specs.Answer.{countOver}
 use Rattle.blocks.proofs.Call.{sides-as}
@@ -55,7 +56,7 @@ returns : tie.Need-returns
 returns c =
     let v = c .before .before .straighten-pictures in
     let t = c .before .before .before .before .before in
-    rw (t .if1 .taken) (v .ensures .0, (v .ensures .1, rw (t .if1 .taken) at (counted (t .before))))
+    rw (t .if1 .taken) (v .ensures .0, (v .ensures .1 .0, ap₂ Straightened (rw (t .if1 .taken) at (counted (t .before))) (v .ensures .1 .1)))
 
 straighten-together-requires : tie.Need-straighten-together-requires
 straighten-together-requires c κs = search needs
@@ -69,7 +70,7 @@ same-length-4 c = search needs
 returns-2 : tie.Need-returns-2
 returns-2 c =
     let v = c .before .before .straighten-together in
-    (v .ensures .0, (v .ensures .1, counted (c .before .before .before .before .before .before)))
+    (v .ensures .0, (v .ensures .1 .0, ap₂ Straightened (counted (c .before .before .before .before .before .before)) (v .ensures .1 .1)))
 
 pub straighten-accepted-spec : {M : Type 1} → statement M
 straighten-accepted-spec =

@@ -13,7 +13,7 @@ use Rattle.planes.specs.Sweep.{Straightened}
 use Rattle.blocks.specs.Block.{slicesOf}
 use Rattle.blocks.specs.Judge.{roomOf}
 use Rattle.blocks.proofs.Straight.{straightened-block}
-use Rattle.blocks.proofs.Call.{sides, sides-as, few-places, fit-workable, copy-within}
+use Rattle.blocks.proofs.Call.{sides, sides-as, some-places, few-places, fit-workable, copy-within}
 use Rattle.blocks.proofs.straighten_together.Statement.{statement}
 use Rattle.blocks.proofs.straighten_together.Tie as tie
 
@@ -108,6 +108,13 @@ clear-requires c κs =
     let t = c .before .before .before in
     simp length-append (omega (arith, t .straighten-slices .kept .1 .0 ∙ lent (swept-room t)))
 
+extremes-of-requires : tie.Need-extremes-of-requires
+extremes-of-requires c κs =
+    let w = c .before .before .before .before .before .before in
+    let k = swept-copy w in
+    let s = copy-start k in
+    (some-places (s .pre), simp length-append (omega (arith, w .straighten-slices .kept .0 ∙ ap length (copied k) ∙ whole s)))
+
 same-length : tie.Need-same-length
 same-length c = search needs
 
@@ -116,7 +123,7 @@ same-length-2 c = search needs
 
 returns : tie.Need-returns
 returns c =
-    let w = c .before .before .before .before .before in
+    let w = c .before .before .before .before .before .before .before in
     let t = w .straighten-slices in
     let k = swept-copy w in
     let r = swept-room w in
@@ -129,8 +136,11 @@ returns c =
           (straightened-block (a .width) (a .height) (a .depth) (a .plane) (a .setting) (a .block .now) (s .pre .width .0) (s .pre .height .0) (d .0 .0) (d .1 .0)
           (t .last .0) (t .kept .0 ∙ ap length (copied k) ∙ whole s) (straight w))
           (ap (drop n) (k .copy .ensures) ∙ drop-at (take n (a .block .now)) (drop n (a .result .now)) n (whole s)),
-      subst (λ (j : ℕ). c .before .clear .last .0 ≡ replicate j (pos 0) ++ drop j (a .work .now)) (rooms r)
-          (c .before .clear .ensures ∙ ap (λ (x : List ℤ). replicate m (pos 0) ++ x) (drop-at (t .last .1 .0) (drop m (a .work .now)) m (t .kept .1 .0 ∙ lent r))),
+      (
+        subst (λ (j : ℕ). c .before .before .before .clear .last .0 ≡ replicate j (pos 0) ++ drop j (a .work .now)) (rooms r)
+            (c .before .before .before .clear .ensures ∙ ap (λ (x : List ℤ). replicate m (pos 0) ++ x) (drop-at (t .last .1 .0) (drop m (a .work .now)) m (t .kept .1 .0 ∙ lent r))),
+        c .extremes-of .ensures,
+      ),
     )
 
 pub straighten-together-spec : {M : Type 1} → statement M
@@ -148,6 +158,7 @@ straighten-together-spec =
     slice-aggregate-straighten-slices-2
     straighten-slices-requires
     clear-requires
+    extremes-of-requires
     same-length
     same-length-2
     returns)
