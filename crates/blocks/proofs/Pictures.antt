@@ -1,5 +1,5 @@
--- The pictures of a block straightened one after the other: what stands before and after the next one, and that the last leaves the block straightened in
--- plane 0. Assumes nothing.
+-- The pictures of a block straightened one after the other: what stands before and after the next one, that the last leaves the block straightened in
+-- plane 0, and that the extremes of the pictures, joined one after the other, are those of the result. Assumes nothing.
 use Prim.Native.Nat.{ℕ, _+_, _*_, _-_, _/_, _%_, _≤_, _<_, max}
 use mathlib.Core.Path.{_≡_, refl, sym, ap, ap₂, _∙_, subst}
 use mathlib.Core.List.{List, _++_}
@@ -210,11 +210,18 @@ module _ (W H D : ℕ) (set : Setting) (block : List ℤ) (hW : 0 < W) (hH : 0 <
     picture-extremes =
         rw (smallest-rows W H (sliceRows s set block z) (line own) hW hH third-placed, largest-rows W H (sliceRows s set block z) (line own) hW hH third-placed) refl
 
--- ---- the extremes of the first z pictures, begun from numbers that are never picked
+-- ---- the smallest and the largest of each picture
+abbrev lows : ℕ → ℕ → ℕ → Setting → List ℤ → ℕ → ℤ
+lows W H D set block i = smallestInRows W H (sliceRows (slicesOf W H D 0) set block i)
+
+abbrev highs : ℕ → ℕ → ℕ → Setting → List ℤ → ℕ → ℤ
+highs W H D set block i = largestInRows W H (sliceRows (slicesOf W H D 0) set block i)
+
+-- those of the first z pictures, begun from numbers that are never picked
 abbrev pub joinedUp : ℕ → ℕ → ℕ → Setting → List ℤ → ℕ → Extremes
 joinedUp W H D set block z = record {
-  smallest = pickedFrom minℤ (pos 1048576) (λ i. smallestInRows W H (sliceRows (slicesOf W H D 0) set block i)) z;
-  largest = pickedFrom maxℤ (negsuc 1048575) (λ i. largestInRows W H (sliceRows (slicesOf W H D 0) set block i)) z;
+  smallest = pickedFrom minℤ (pos 1048576) (lows W H D set block) z;
+  largest = pickedFrom maxℤ (negsuc 1048575) (highs W H D set block) z;
 }
 
 abbrev both : ℤ → ℤ → Extremes
@@ -222,16 +229,12 @@ both smallest largest = record { smallest = smallest; largest = largest }
 
 pub joined-none : (W H D : ℕ) (set : Setting) (block : List ℤ) → both (pos 1048576) (negsuc 1048575) ≡ joinedUp W H D set block 0
 joined-none W H D set block =
-    ap₂ both (from-none minℤ (pos 1048576) (λ i. smallestInRows W H (sliceRows (slicesOf W H D 0) set block i)))
-    (from-none maxℤ (negsuc 1048575) (λ i. largestInRows W H (sliceRows (slicesOf W H D 0) set block i)))
+    ap₂ both (from-none minℤ (pos 1048576) (lows W H D set block)) (from-none maxℤ (negsuc 1048575) (highs W H D set block))
 
 pub joined-more : (W H D : ℕ) (set : Setting) (block : List ℤ) (z : ℕ)
-    → joinedOf (joinedUp W H D set block z)
-    (both (smallestInRows W H (sliceRows (slicesOf W H D 0) set block z)) (largestInRows W H (sliceRows (slicesOf W H D 0) set block z)))
-    ≡ joinedUp W H D set block (z + 1)
+    → joinedOf (joinedUp W H D set block z) (both (lows W H D set block z) (highs W H D set block z)) ≡ joinedUp W H D set block (z + 1)
 joined-more W H D set block z =
-    ap₂ both (from-more minℤ (pos 1048576) (λ i. smallestInRows W H (sliceRows (slicesOf W H D 0) set block i)) z)
-    (from-more maxℤ (negsuc 1048575) (λ i. largestInRows W H (sliceRows (slicesOf W H D 0) set block i)) z)
+    ap₂ both (from-more minℤ (pos 1048576) (lows W H D set block) z) (from-more maxℤ (negsuc 1048575) (highs W H D set block) z)
 
 module _ {W H D : ℕ} {set : Setting} {block : List ℤ} {places room : ℕ} (f : Fit W H D 0 set block places room) where
   abbrev first : List ℤ
@@ -250,22 +253,20 @@ module _ {W H D : ℕ} {set : Setting} {block : List ℤ} {places room : ℕ} (f
       → joinedUp W H D set block D ≡ extremesOf (W * H * D) result′
   all-joined result result′ done =
       rw (
-        from-picked minℤ (pos 1048576) (λ i. smallestInRows W H (sliceRows (slicesOf W H D 0) set block i)) (min-never _ smallest-small) (min-same _) D (f .depth .0)
-            ∙ smallest-over f result result′ done,
-        from-picked maxℤ (negsuc 1048575) (λ i. largestInRows W H (sliceRows (slicesOf W H D 0) set block i)) (max-never _ largest-small) (max-same _) D (f .depth .0)
-            ∙ largest-over f result result′ done,
+        from-picked minℤ (pos 1048576) (lows W H D set block) (min-never _ smallest-small) (min-same _) D (f .depth .0) ∙ smallest-over f result result′ done,
+        from-picked maxℤ (negsuc 1048575) (highs W H D set block) (max-never _ largest-small) (max-same _) D (f .depth .0) ∙ largest-over f result result′ done,
       )
       refl
     where
       some : 1 ≤ W * H
       some = mul-pos (f .width .0) (f .height .0)
 
-      smallest-small : natAbs (smallestInRows W H (sliceRows (slicesOf W H D 0) set block 0)) ≤ 1048576
+      smallest-small : natAbs (lows W H D set block 0) ≤ 1048576
       smallest-small =
           subst (λ (v : ℤ). natAbs v ≤ 1048576) (sym (smallest-rows W H (sliceRows (slicesOf W H D 0) set block 0) (line first) (f .width .0) (f .height .0) first-rows))
           (extreme-has _ (λ v. natAbs v ≤ 1048576) (line first) (W * H) _ (smallest-is (line first) (W * H) some) first-small)
 
-      largest-small : natAbs (largestInRows W H (sliceRows (slicesOf W H D 0) set block 0)) ≤ 1048576
+      largest-small : natAbs (highs W H D set block 0) ≤ 1048576
       largest-small =
           subst (λ (v : ℤ). natAbs v ≤ 1048576) (sym (largest-rows W H (sliceRows (slicesOf W H D 0) set block 0) (line first) (f .width .0) (f .height .0) first-rows))
           (extreme-has _ (λ v. natAbs v ≤ 1048576) (line first) (W * H) _ (largest-is (line first) (W * H) some) first-small)
