@@ -1,5 +1,7 @@
 // Whether a call is straightened: the tests of numbers 1, 2, 14, 3, 4, 5, 12 and 6, in their order, and the work places that it takes. Nothing
 // is written.
+#![tactic(auto)]
+
 ghost use Rattle.std.specs.Prelude.{◌≡◌, ◌*◌, ◌≤◌, max};
 ghost use Rattle.acceptance.specs.Judge.{work_places, too_short, bad_centre, bad_shears, judged_setting, judged_on, judged};
 

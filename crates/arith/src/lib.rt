@@ -1,5 +1,7 @@
 // Whole numbers: a wider type, remainders, rounding, the parts of a move as document 01 takes them, neighbours in a cyclic line, the lower and the higher
 // of two.
+#![tactic(auto)]
+
 ghost use Rattle.std.specs.Prelude.{◌≡◌, ◌+◌, ◌-◌, ◌%◌, ◌<◌, ◌≤◌, min, max, pos, nat_abs, ◌≤ℤ◌};
 ghost use Rattle.arith.specs.Whole.{remainder, round};
 ghost use Rattle.arith.specs.Move.{fraction, whole};

@@ -2,6 +2,8 @@
 // counted as columns. A block is stored picture after picture by depth; samples are in 128ths of a grey, and shears in 4,096ths.
 // The tests read the block once, but for a row with a bad sample. An accepted block is copied into the result, and its slices are straightened where they
 // lie there, in plane 0 picture by picture, else all of them together: no slice is copied out. docs/PERFORMANCE.md says what that costs.
+#![tactic(auto)]
+
 ghost use Rattle.std.specs.Prelude.{◌≡◌, ◌++◌, ◌*◌, ◌≤◌, max, pos, length, drop, replicate};
 ghost use Rattle.lists.specs.Ends.{extremes_of};
 ghost use Rattle.blocks.specs.declared.Outcome.TheVariants.{Straightened};

@@ -1,4 +1,6 @@
 // Upper-case hexadecimal digits: tested, read and written.
+#![tactic(auto)]
+
 ghost use Rattle.std.specs.Prelude.{◌≡◌, true, map, ◌%◌, ◌≤◌, ◌<◌, eqb, length};
 ghost use Rattle.digits.specs.Digit.{is_digit, all_digits, passes, digit_value, hex_value, digit_of, places_of, spelt, signed16, word32};
 

@@ -1,5 +1,7 @@
 // The call that shows what made one sample of a moved line: the four source places with their weights and samples, or the spline's coefficients, the
 // weighted sum, the divisor and the rounded quotient. A kernel is 0 linear, 1 Keys or 2 cubic spline; d is a move in 4,096ths of a sample.
+#![tactic(auto)]
+
 ghost use Rattle.std.specs.Prelude.{◌≡◌, ◌++◌, ◌*◌, ◌≤◌, ◌<◌, length, drop, replicate, pos, nat_abs};
 ghost use Rattle.lists.specs.Line.{line};
 ghost use Rattle.arith.specs.Move.{fraction};

@@ -1,5 +1,7 @@
 // The public calls as C and Rust link them. A slice is a pointer and a length, a struct goes by value, and what the call beneath answers as
 // an enum, or takes as one, is laid out flat. include/straightener.h says what each argument means, in which unit, and what each number says.
+#![tactic(auto)]
+
 ghost use Rattle.std.specs.Prelude.{◌≡◌};
 ghost use Rattle.pictures.specs.Answer.{Answer as PictureStraightened};
 ghost use Rattle.tickets.specs.Ticket.{Asking, Committed};

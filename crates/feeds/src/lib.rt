@@ -1,4 +1,6 @@
 // Where a line ends: the length of the line that a text begins with, found eight bytes at once.
+#![tactic(auto)]
+
 ghost use Rattle.std.specs.Prelude.{◌≡◌, ◌%◌, length};
 ghost use Rattle.words.specs.Word.{bytes_of};
 ghost use Rattle.feeds.specs.Feed.{line_length};

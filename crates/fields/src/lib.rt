@@ -1,4 +1,6 @@
 // What a line of the line program says: whether it is well formed, its setting and its size, the lowest number that applies to it, its samples.
+#![tactic(auto)]
+
 ghost use Rattle.std.specs.Prelude.{◌≡◌, true, ◌+◌, ◌*◌, ◌<◌, ◌≤◌, pos, length};
 ghost use Rattle.lists.specs.Tab.{tab};
 ghost use Rattle.digits.specs.Digit.{is_digit, all_digits, digit_value};

@@ -1,5 +1,7 @@
 // Settings and answers as C and Rust hold them: structs of numbers with C's layout. What a call answers as an enum, or takes as one, is laid
 // out flat. include/straightener.h says what each field means.
+#![tactic(auto)]
+
 ghost use Rattle.std.specs.Prelude.{◌≡◌, pos};
 ghost use Rattle.flat.specs.Exported.{border_of, setting_of, laid_as, of_change, of_verdict, of_outcome, of_block, of_line, of_sine, of_levelled, kind_of, greys_of, of_reading, of_summary, of_written, ticket_of, of_asked, of_forecast, of_explanation, of_checked, of_moved, of_named};
 

@@ -1,5 +1,7 @@
 // What a straightening takes and can leave, told from its size, its setting and the largest sample size, before there is a picture: the work places
 // that it needs, the lines that it interpolates, and a bound on the size of any sample of its result.
+#![tactic(auto)]
+
 ghost use Rattle.std.specs.Prelude.{◌≡◌, ◌≤◌, nat_abs};
 ghost use Rattle.kernels.specs.Kernel.{kernel_of};
 ghost use Rattle.moves.specs.Border.{grey};

@@ -1,5 +1,7 @@
 // Levelling with the picture at hand: the step that levels the line through two points, where no sample on that line is below a threshold. Columns and
 // rows are counted from 0; samples and the threshold are in 128ths of a grey.
+#![tactic(auto)]
+
 ghost use Rattle.std.specs.Prelude.{◌≡◌, ◌≤◌, length, pos, ◌≤ℤ◌};
 ghost use Rattle.refusals.specs.Judging.{of_found};
 ghost use Rattle.graticule.specs.Look.{row_at, first_below, Rightward, Lie};

@@ -2,6 +2,8 @@
 // of 3n where they stand between background samples. In the picture the first starts at `at`, each of the others `across` places after the one
 // before it, and the places of a line are `along` apart. Columns go place by place, so that each cache line of the picture serves four of them;
 // rows go line by line, in straight runs, which takes a third off a linear pass.
+#![tactic(auto)]
+
 ghost use Rattle.std.specs.Prelude.{◌≡◌, ℕ, ◌+◌, ◌*◌, ◌-◌, ◌%◌, ◌<◌, ◌≤◌, pos, length, get_or};
 ghost use Rattle.lists.specs.Grid.{put, row_of, Lines};
 ghost use Rattle.moves.specs.Row.{places, Holds, Framed};

@@ -1,4 +1,6 @@
 // One line of the line program answered: read, judged, straightened and written.
+#![tactic(auto)]
+
 ghost use Rattle.std.specs.Prelude.{◌≡◌, true, ◌*◌, ◌≤◌, max, length};
 ghost use Rattle.format.specs.Line.{well_formed, width_in, height_in};
 ghost use Rattle.format.specs.Answer.{answer_of};

@@ -1,5 +1,7 @@
 // The kernels' weights. A kernel is 0 linear, 1 Keys or 2 cubic spline; f is the fraction of a sample, in parts of D = 4,096; a kernel's
 // four weights sum to 1, 2 or 6 times D³.
+#![tactic(auto)]
+
 ghost use Rattle.std.specs.Prelude.{◌≡◌, [], ℕ, ◌≤◌, get_or, pos, nat_abs};
 ghost use Rattle.kernels.specs.Kernel.{kernel_of, evaluate};
 ghost use Rattle.kernels.specs.Four.{four_of, four_weights, weighted_sum, Modest, Weighable};

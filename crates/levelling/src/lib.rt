@@ -1,4 +1,6 @@
 // Levelling: the step that turns a graticule line level. Step t is 4,096 times the tangent of half the angle.
+#![tactic(auto)]
+
 ghost use Rattle.std.specs.Prelude.{◌≡◌, false, ◌+◌, ◌-◌, ◌<◌, ◌≤◌, nat_abs, ◌-ℤ◌};
 ghost use Rattle.levelling.specs.Level.{step_at, levelling, largest_side, outside, steep, direction_of, LevelAnswer};
 ghost use Rattle.levelling.specs.Search.{Flat, Missed, Between};

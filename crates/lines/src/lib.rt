@@ -1,5 +1,7 @@
 // The call that moves one line: it judges its input, moves the line by way of a row in its work, clears its work, and looks through the result for
 // its extremes. A kernel is 0 linear, 1 Keys or 2 cubic spline; d is a move in 4,096ths of a sample.
+#![tactic(auto)]
+
 ghost use Rattle.std.specs.Prelude.{◌≡◌, ◌++◌, ◌*◌, ◌≤◌, length, take, drop, replicate, pos};
 ghost use Rattle.kernels.specs.Kernel.{kernel_of};
 ghost use Rattle.moves.specs.Border.{move_in};

@@ -1,4 +1,6 @@
 // Slices: the thin loops that every layer above uses, each place read and written once.
+#![tactic(auto)]
+
 ghost use Rattle.std.specs.Prelude.{◌≡◌, ◌++◌, ℕ, ◌+◌, ◌*◌, ◌<◌, ◌≤◌, length, take, drop, replicate, pos};
 ghost use Rattle.arith.specs.Whole.{minℤ, maxℤ};
 ghost use Rattle.lists.specs.Line.{line, rolled};

@@ -1,5 +1,7 @@
 // One line moved, by definition: document 01's move, the same under a border, the steps that the code takes, and the laws of them all. `weighing`
 // and `rows` have the code of the steps, `lines` the call.
+#![tactic(auto)]
+
 ghost use Rattle.std.specs.Prelude.{◌≡◌};
 ghost use Rattle.moves.specs.Border.{bad_background};
 

@@ -3,6 +3,8 @@
 //     fraction_of   f of a line's move
 //     start_at      the place of its weighed row that a line's first output is read from
 //     count_of      how many lines of a picture are interpolated, in all three passes
+#![tactic(auto)]
+
 ghost use Rattle.std.specs.Prelude.{◌≡◌, ◌<◌, ◌≤◌, min, pos, nat_abs};
 ghost use Rattle.arith.specs.Move.{fraction};
 ghost use Rattle.moves.specs.Border.{fraction_in};

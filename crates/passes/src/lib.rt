@@ -1,1 +1,2 @@
 // A picture's three passes: definitions and laws, no code.
+#![tactic(auto)]

@@ -2,6 +2,8 @@
 // a grey, stored row by row, and shears in 4,096ths.
 // The tests read the picture once, but for a row with a bad sample. An accepted picture is copied into the result and straightened there, four
 // lines at a time by way of `work`; then the result is looked through for its extremes. docs/PERFORMANCE.md says what that costs.
+#![tactic(auto)]
+
 ghost use Rattle.std.specs.Prelude.{◌≡◌, ◌++◌, ◌*◌, max, pos, length, take, drop, replicate};
 ghost use Rattle.passes.specs.Picture.{straighten};
 ghost use Rattle.passes.specs.Count.{count};

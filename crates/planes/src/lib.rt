@@ -2,6 +2,8 @@
 // strides of the slices, and no slice is copied out. A picture of its own is one slice.
 // A pass goes over the lines that lie nearest to each other, four at a time, so that they share cache lines: the lines of one slice, or the same line of
 // all slices, which moves alike in each of them.
+#![tactic(auto)]
+
 ghost use Rattle.std.specs.Prelude.{◌≡◌, false, ℕ, ◌≤◌, nat_abs, length};
 ghost use Rattle.kernels.specs.Kernel.{kernel_of};
 ghost use Rattle.passes.specs.Picture.{shear};

@@ -3,6 +3,8 @@
 //     coefficients        one line
 //     coefficients_four   four lines that lie one after the other, side by side: each u waits for the one before it, so four such chains at
 //                         once take 2.6 times less than one after the other (from 640 places on; at 64 places 1.9 times less)
+#![tactic(auto)]
+
 ghost use Rattle.std.specs.Prelude.{◌≡◌, ℕ, ◌+◌, ◌*◌, ◌<◌, ◌≤◌, ℤ, pos, nat_abs, ◌*ℤ◌, ◌-ℤ◌, length, get_or, set, drop};
 ghost use Rattle.arith.specs.Whole.{round};
 ghost use Rattle.lists.specs.Grid.{row_of};

@@ -1,6 +1,8 @@
 // Quarter turns and mirrors, for cameras that are mounted sideways: the eight exact moves of a picture. Moves 0 to 3 are that many clockwise quarter turns, 4
 // to 7 a left-right mirror and then 0 to 3 turns. A move reads every sample twice, once to judge it, and writes it once; a picture of 1,024 by 1,024 takes
 // 2 to 3 times what a copy takes where rows stay rows, and 3 to 4 times where they become columns (docs/PERFORMANCE.md).
+#![tactic(auto)]
+
 ghost use Rattle.std.specs.Prelude.{◌≡◌, ◌++◌, ◌*◌, ◌<◌, length, drop};
 ghost use Rattle.refusals.specs.declared.Verdict.TheVariants.{Refused};
 ghost use Rattle.arrangements.specs.Moves.{screen, stored, moved};

@@ -1,6 +1,8 @@
 // What the candidate reads the 3 dB widths from: greys out, floats out, a reading and the summary of a whole picture of samples within
 // ±1,048,576, 128 units to one grey. Each call judges its input first (numbers 1, 2, 6, and 7 of a point) and writes nothing when it
 // refuses. A call passes twice over the picture, once to judge and once to answer; a reading passes once.
+#![tactic(auto)]
+
 ghost use Rattle.std.specs.Prelude.{◌≡◌, ◌*◌, ◌≤◌, min, ◌++◌, length, drop, nat_abs};
 ghost use Rattle.lists.specs.Tab.{tab};
 ghost use Rattle.lists.specs.Line.{line};

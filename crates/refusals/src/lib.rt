@@ -1,5 +1,7 @@
 // What every public call shares when it judges its input: the verdict, the size test (number 1), the range test (numbers 4 and 6), and
 // the scan that names the first sample beyond its range. Sizes and places are counts of samples; a limit is in the unit of what it limits.
+#![tactic(auto)]
+
 ghost use Rattle.std.specs.Prelude.{◌≡◌, ◌*◌, ◌≤◌, length, nat_abs};
 ghost use Rattle.refusals.specs.Tests.{side_beyond, bad_side, bad_size, beyond_of, first_bad, AllWithin, Limit};
 ghost use Rattle.refusals.specs.Judging.{of_found};

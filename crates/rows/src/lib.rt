@@ -7,6 +7,8 @@
 //     set_in        a line read into its row
 //     treat         a row prepared, and a part of it weighed where it stands
 // A kernel is 0 linear, 1 Keys or 2 cubic spline; d is a move in 4,096ths of a sample, and f the fraction of a sample in the same unit.
+#![tactic(auto)]
+
 ghost use Rattle.std.specs.Prelude.{◌≡◌, cond, ℕ, ◌+◌, ◌*◌, ◌%◌, ◌≤◌, ◌<◌, length, pos, nat_abs, ◌≤ℤ◌, ◌<ℤ◌};
 ghost use Rattle.refusals.specs.Tests.{AllWithin};
 ghost use Rattle.settings.specs.declared.Border.TheVariants.{Background};

@@ -1,1 +1,2 @@
 // Document 01's starred samples: definitions and one computed test, no code.
+#![tactic(auto)]

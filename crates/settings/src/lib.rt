@@ -1,5 +1,7 @@
 // A setting by value: kernel, centre, shears and border. Each change hands back a new setting with the others kept, and tests nothing: values
 // are tested where the setting is used.
+#![tactic(auto)]
+
 ghost use Rattle.std.specs.Prelude.{◌≡◌};
 ghost use Rattle.settings.specs.Setting.{with_kernel, with_centre, with_shears, with_border};
 

@@ -1,6 +1,8 @@
 // One pass: every line of one direction moved in place, four at a time. Line y starts at place y·across of the picture, and its n places
 // are `along` apart: rows have along 1 and across W, columns along W and across 1. How far each line moves, in 4,096ths of a sample, `moves` tells. Under
 // background each line is set between n background samples on each side, and a move is held to n samples: then nothing but background is left.
+#![tactic(auto)]
+
 ghost use Rattle.std.specs.Prelude.{◌≡◌, ℕ, ◌+◌, ◌*◌, ◌<◌, ◌≤◌, pos, nat_abs, length, get_or};
 ghost use Rattle.lists.specs.Grid.{line_of, put, Lines};
 ghost use Rattle.kernels.specs.Kernel.{kernel_of};

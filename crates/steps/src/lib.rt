@@ -1,4 +1,6 @@
 // Steps. Step t is 4,096 times the tangent of half the angle; it sets A = -t and B = S(t).
+#![tactic(auto)]
+
 ghost use Rattle.std.specs.Prelude.{◌≡◌, false, ◌≤◌, pos, nat_abs, ◌≤ℤ◌};
 ghost use Rattle.steps.specs.Step.{beyond, entry, S, SineAnswer, change_of};
 

@@ -1,6 +1,8 @@
 // The line program: standard input is read in blocks of up to 64 KiB, a turn of the library answers the lines that end in a block, and the
 // answers are written to standard output. It holds no more than one line beside its block and its answers, however long the input and its
 // lines are. A read or a write that fails ends it, and it says so on standard error.
+#![tactic(auto)]
+
 ghost use Rattle.std.specs.Prelude.{◌≡◌, ◌<◌, ◌≤◌, true, length};
 ghost use Rattle.straightener.specs.Run.{Some, is_more, told_of, TurnDone, Closed, AllDone};
 

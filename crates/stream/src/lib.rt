@@ -2,6 +2,8 @@
 // unfinished line come out.
 //     turn   a block read
 //     last   the end of the input
+#![tactic(auto)]
+
 ghost use Rattle.std.specs.Prelude.{◌≡◌, ◌++◌, ◌+◌, ◌*◌, ◌≤◌, min, length, take};
 ghost use Rattle.std.proofs.Math.Seq.{paste};
 ghost use Rattle.stream.specs.Steps.{cut, Stands, Finished, Read, Stepped, Turned, Last};

@@ -1,4 +1,6 @@
 // The text of an answer, written to the front of a lent buffer where it fits: the places of its numbers first, which are then spelt as digits.
+#![tactic(auto)]
+
 ghost use Rattle.std.specs.Prelude.{◌≡◌, ◌+◌, ◌*◌, ◌<◌, ◌≤◌, length};
 ghost use Rattle.digits.specs.Digit.{places_of};
 ghost use Rattle.format.specs.Answer.{refusal_text, accepted_text};

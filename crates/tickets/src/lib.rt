@@ -3,6 +3,8 @@
 //     commit   every test again, on the picture and the buffers as they then stand; then it straightens
 // A ticket is plain numbers, which a caller may keep, change or make up. A commit compares its size with the one that it is given, judges its setting,
 // and never reads its count.
+#![tactic(auto)]
+
 ghost use Rattle.std.specs.Prelude.{◌≡◌};
 ghost use Rattle.tickets.specs.Ticket.{other_size, Asking, Committed};
 

@@ -1,6 +1,8 @@
 // The samples of a picture written anew, so that it stands turned or mirrored.
 // Rows that stay rows are copied or reversed one by one. Rows that become columns go through a block of 64 by 64 samples: in a picture 1,024 wide, samples
 // below each other share one set of the processor's cache, so that reading a column of many of them straight from the picture takes several times as long.
+#![tactic(auto)]
+
 ghost use Rattle.std.specs.Prelude.{◌≡◌, ◌++◌, true, false, ◌+◌, ◌*◌, ◌-◌, ◌≤◌, ◌<◌, length, drop};
 ghost use Rattle.lists.specs.Tab.{tab};
 ghost use Rattle.lists.specs.Line.{line};

@@ -1,6 +1,8 @@
 // A prepared line weighed where it stands, in one pass over it that divides by constants alone and reduces no index. A kernel is 0 linear,
 // 1 Keys or 2 cubic spline; f is the fraction of a sample that the line moves by, in 4,096ths.
 //     weigh_line   by any kernel
+#![tactic(auto)]
+
 ghost use Rattle.std.specs.Prelude.{◌≡◌, ◌≤◌, length, pos, nat_abs, ◌+ℤ◌, ◌*ℤ◌, ◌≤ℤ◌, ◌<ℤ◌};
 ghost use Rattle.arith.specs.Whole.{round};
 ghost use Rattle.refusals.specs.Tests.{AllWithin};
