@@ -35,20 +35,20 @@ yes_true false t = absurd t
 abbrev both_swap : ℕ → ℕ → Bool
 both_swap a b = differ (swaps a) (swaps b)
 
-abbrev both_right : ℕ → ℕ → Bool
-both_right a b = differ (from_right a) (cond (swaps a) (from_below b) (from_right b))
+abbrev right_of_both : ℕ → ℕ → Bool
+right_of_both a b = differ (from_right a) (cond (swaps a) (from_below b) (from_right b))
 
 abbrev both_below : ℕ → ℕ → Bool
 both_below a b = differ (from_below a) (cond (swaps a) (from_right b) (from_below b))
 
 -- e is one of the eight moves, and its tests are those
 test : ℕ → ℕ → ℕ → Bool
-test a b e = both (ltb e 8) (both (alike (swaps e) (both_swap a b)) (both (alike (from_right e) (both_right a b)) (alike (from_below e) (both_below a b))))
+test a b e = both (ltb e 8) (both (alike (swaps e) (both_swap a b)) (both (alike (from_right e) (right_of_both a b)) (alike (from_below e) (both_below a b))))
 
 pub record Rule (a b e : ℕ) : Type 0 where
   pub known : e < 8
   pub swap : swaps e ≡ both_swap a b
-  pub right : from_right e ≡ both_right a b
+  pub right : from_right e ≡ right_of_both a b
   pub below : from_below e ≡ both_below a b
 
 test_rule : (a b e : ℕ) → T (test a b e) → Rule a b e
@@ -59,8 +59,8 @@ test_rule a b e t =
     record {
       known = ltb-true e 8 (yes_true (ltb e 8) (both_left (ltb e 8) _ t));
       swap = alike_eq _ _ (both_left (alike (swaps e) (both_swap a b)) _ u);
-      right = alike_eq _ _ (both_left (alike (from_right e) (both_right a b)) _ v);
-      below = alike_eq _ _ (both_right (alike (from_right e) (both_right a b)) _ v);
+      right = alike_eq _ _ (both_left (alike (from_right e) (right_of_both a b)) _ v);
+      below = alike_eq _ _ (both_right (alike (from_right e) (right_of_both a b)) _ v);
     }
 
 -- the rule at all 64 entries, computed row after row

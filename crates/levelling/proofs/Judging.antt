@@ -1,7 +1,7 @@
 -- What the tests of levelling tell, and the answers that follow. Assumes nothing.
 use Prim.Native.Nat.{ℕ, zero, suc, ◌≤◌}
 use mathlib.Core.Path.{◌≡◌, refl, sym, ap, ◌∙◌, subst}
-use mathlib.Core.Bool.{Bool, true, false, cond, ◌||◌, or_assoc, or_self, or-true, or_false}
+use mathlib.Core.Bool.{Bool, true, false, cond, ◌||◌, or_assoc, or_self, or-true, or-false}
 use mathlib.Core.List.{[], ◌∷◌, map}
 use native.Mathlib.Omega.{arith}
 use lib.Dec.{ltb}
@@ -68,7 +68,7 @@ module _ (width height : ℕ) (x1 y1 x2 y2 : ℤ) where
 -- ---- number 8: |y| is above x where y or -y is
 size_above : (x y : ℤ) → (lt_z x y || lt_z x (neg_ℤ y)) ≡ lt_z x (pos (nat_abs y))
 size_above (pos m) (pos zero) = or_self _
-size_above (pos m) (pos (suc n)) = or_false _
+size_above (pos m) (pos (suc n)) = or-false _
 size_above (negsuc m) (pos n) = refl
 size_above (pos m) (negsuc n) = refl
 size_above (negsuc m) (negsuc n) = or-true (ltb n m)
