@@ -19,7 +19,7 @@ PLAIN = re.compile(r"[^\W\d_][\w']*", re.UNICODE)
 # Words of plain English that some function of src/ has as its name: beside them a dash joins nothing.
 WORDS = set("after across at down in least most of on one own prior spread there up wide within".split())
 # Fields that would have the name of a definition which stands beside them.
-OTHERWISE = {"accepted-text": "text_accepted", "other-size": "size_other", "work-places": "work_places_lent"}
+OTHERWISE = {"accepted-text": "text_accepted", "other-size": "size_other", "work-places": "work_places_lent", "rows-moved": "rows_moved"}
 ANSWER = re.compile(r" : (?:tie\.|\{M : Type 1\} → statement M)")
 LIBRARY = set(
     "min max length take drop set map reverse sum get_or replicate pos negsuc nat_abs neg_ℤ to_z of_z floor round remainder fraction zero suc mul add sub div mod quot rem "

@@ -23,7 +23,7 @@ use Rattle.kernels.specs.Kernel.{weigh}
 use Rattle.moves.specs.Move.{first, mixed, source, moved}
 use Rattle.moves.specs.Border.{gone, fraction_in, bordered, bad_background}
 use Rattle.lists.specs.Picture.{picture, pictured}
-use Rattle.passes.specs.Picture.{rows-moved}
+use Rattle.passes.specs.Picture.{rows_moved}
 use Rattle.passes.specs.Count.{interpolated, count}
 use Rattle.acceptance.specs.Judge.{bad_centre, bad_shears, range}
 use Rattle.planes.specs.Slices.{slice_of}
@@ -190,7 +190,7 @@ columns_moved : map (λ plane. straighten_block 2 2 2 plane (set 0 0 0 (pos 0) (
     ∷ (pos 1 ∷ pos 6 ∷ pos 3 ∷ pos 8 ∷ pos 5 ∷ pos 2 ∷ pos 7 ∷ pos 4 ∷ [])
     ∷ (pos 1 ∷ pos 2 ∷ pos 7 ∷ pos 8 ∷ pos 5 ∷ pos 6 ∷ pos 3 ∷ pos 4 ∷ [])
     ∷ []
-unfolding straighten_block tab rows-moved bordered moved source mixed first weigh Σ wrap round whole floor remainder fraction
+unfolding straighten_block tab rows_moved bordered moved source mixed first weigh Σ wrap round whole floor remainder fraction
 columns_moved = refl
 
 -- A = 4,096 too, and row 1 is moved before and after: every slice is turned over its diagonal
@@ -199,7 +199,7 @@ all_moved : map (λ plane. straighten_block 2 2 2 plane (set 0 0 0 (pos 4096) (p
     ∷ (pos 1 ∷ pos 5 ∷ pos 3 ∷ pos 7 ∷ pos 2 ∷ pos 6 ∷ pos 4 ∷ pos 8 ∷ [])
     ∷ (pos 1 ∷ pos 2 ∷ pos 5 ∷ pos 6 ∷ pos 3 ∷ pos 4 ∷ pos 7 ∷ pos 8 ∷ [])
     ∷ []
-unfolding straighten_block tab rows-moved bordered moved source mixed first weigh Σ wrap round whole floor remainder fraction
+unfolding straighten_block tab rows_moved bordered moved source mixed first weigh Σ wrap round whole floor remainder fraction
 all_moved = refl
 
 -- ---- the figures of an accepted call, over all slices
@@ -218,9 +218,9 @@ unfolding judged bad_sides bad_plane too_short short bad_centre bad_shears bad_k
 told = refl
 
 extremes_told : map (λ plane. smallest_of (answered plane) ∷ largest_of (answered plane) ∷ []) planes ≡ (pos 1 ∷ pos 7 ∷ []) ∷ (pos 1 ∷ pos 7 ∷ []) ∷ (pos 1 ∷ pos 6 ∷ []) ∷ []
-unfolding judged bad_sides bad_plane too_short short bad_centre bad_shears bad_kernel bad_background first_bad first_from beyond_of picked minℤ maxℤ straighten_block tab rows-moved bordered moved source mixed first weigh Σ wrap round whole floor remainder fraction
+unfolding judged bad_sides bad_plane too_short short bad_centre bad_shears bad_kernel bad_background first_bad first_from beyond_of picked minℤ maxℤ straighten_block tab rows_moved bordered moved source mixed first weigh Σ wrap round whole floor remainder fraction
 extremes_told = refl
 
 extremes_over : map (λ plane. smallest_over (slices_of 2 2 2 plane) half eight ∷ largest_over (slices_of 2 2 2 plane) half eight ∷ []) planes ≡ (pos 1 ∷ pos 7 ∷ []) ∷ (pos 1 ∷ pos 7 ∷ []) ∷ (pos 1 ∷ pos 6 ∷ []) ∷ []
-unfolding slice_of picture pictured picked minℤ maxℤ tab rows-moved bordered moved source mixed first weigh Σ wrap round whole floor remainder fraction
+unfolding slice_of picture pictured picked minℤ maxℤ tab rows_moved bordered moved source mixed first weigh Σ wrap round whole floor remainder fraction
 extremes_over = refl

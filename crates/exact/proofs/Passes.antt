@@ -18,7 +18,7 @@ use Rattle.exact.proofs.Step.{itself, base, growth}
 use Rattle.exact.proofs.Border.{over_in, numbers_in, exact_move, over_in_positive, exact_move_only, move-near, whole-move, Agrees, grey-move, bordered-grey, shift_move}
 use Rattle.exact.specs.Limits.{limit}
 use Rattle.lists.specs.Picture.{Picture, Places}
-use Rattle.passes.specs.Picture.{turned, rows-moved, after_one, after_two, straightened}
+use Rattle.passes.specs.Picture.{turned, rows_moved, after_one, after_two, straightened}
 use Rattle.passes.proofs.Reach.{Ranged, turn_ranged, row_small, grey_small, reach_fits, outer₁, outer₂, range₁, range₂}
 use Rattle.exact.specs.ExactPicture.{ExactRows, ExactPicture}
 
@@ -76,8 +76,8 @@ turn_equal e = record { place = λ x y hx hy. e.place y x hy hx }
 
 -- ---- one pass over rows, of samples in a line's range
 rows-grey : (β : Border) (κ : Kernel) {W H : ℕ} (move : ℕ → ℤ) {X : Picture} (M : ℕ) (g : ℤ) → 0 < W → M ≤ 294912 → Within (pos M) (grey β) → Ranged W H M X → Agrees β g
-    → Places W H (λ y x. X y x ≡ g) → Places W H (λ y x. rows-moved β κ W move X y x ≡ g)
-unfolding rows-moved
+    → Places W H (λ y x. X y x ≡ g) → Places W H (λ y x. rows_moved β κ W move X y x ≡ g)
+unfolding rows_moved
 rows-grey β κ move M g h fits outer range agrees grey y x hy hx = bordered-grey β h (grey_small β fits outer) (row_small fits range y hy) κ (move y) g agrees (λ k l. grey y k hy l) x hx
 
 module _ {β : Border} {κ : Kernel} {W H : ℕ} {move : ℕ → ℤ} (h : 0 < W) where
@@ -90,8 +90,8 @@ module _ {β : Border} {κ : Kernel} {W H : ℕ} {move : ℕ → ℤ} (h : 0 < W
       }
 
   rows-close : {S E X : Picture} {q Z : ℤ} (M : ℕ) (m e : ℤ) → M ≤ 294912 → Within (pos M) (grey β) → pos 0 ≤ℤ m → pos 0 <ℤ q → Ranged W H M X → Close W H m e X S q
-      → ExactRows β κ W H move S q E Z → Close W H (pos 4 *ℤ m) (pos (base κ) *ℤ m +ℤ pos (growth κ) *ℤ e) (rows-moved β κ W move X) E Z
-  unfolding rows-moved
+      → ExactRows β κ W H move S q E Z → Close W H (pos 4 *ℤ m) (pos (base κ) *ℤ m +ℤ pos (growth κ) *ℤ e) (rows_moved β κ W move X) E Z
+  unfolding rows_moved
   rows-close M m e fits outer hm hq range near a =
       record {
         place = λ y x hy hx. (move-near m e h (row_small fits range y hy) hq hm (record { place = λ k l. near.place y k hy l }) β (grey_small β fits outer) κ (move y)
@@ -101,8 +101,8 @@ module _ {β : Border} {κ : Kernel} {W H : ℕ} {move : ℕ → ℤ} (h : 0 < W
   -- where each row's exact line is whole
   rows_whole : {X S E G : Picture} {q Z : ℤ} (M : ℕ) → M ≤ 294912 → Within (pos M) (grey β) → pos 0 <ℤ q → Ranged W H M X
       → ((y : ℕ) → y < H → ExactMove β κ W (move y) (X y) (pos 1) (G y) (pos 1)) → Equal W H X (pos 1) S q → ExactRows β κ W H move S q E Z
-      → Equal W H (rows-moved β κ W move X) (pos 1) E Z
-  unfolding rows-moved
+      → Equal W H (rows_moved β κ W move X) (pos 1) E Z
+  unfolding rows_moved
   rows_whole M fits outer hq range whole same a =
       record {
         place = λ y x hy hx. (whole-move h (grey_small β fits outer) (row_small fits range y hy) hq (whole y hy) (record { place = λ k l. same.place y k hy l })

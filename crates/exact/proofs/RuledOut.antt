@@ -24,7 +24,7 @@ use Rattle.spline.specs.Coefficients.{filter, run, u, down, back, v, scaled, coe
 use Rattle.moves.specs.Move.{first, mixed, source, moved}
 use Rattle.moves.specs.Border.{framed, far, bordered, grey}
 use Rattle.lists.specs.Picture.{Picture, picture, pictured}
-use Rattle.passes.specs.Picture.{turned, shear, rows-moved, straighten}
+use Rattle.passes.specs.Picture.{turned, shear, rows_moved, straighten}
 use Rattle.passes.proofs.Stages.{rows_pass, columns_pass}
 use Rattle.passes.proofs.Examples.{keys-three-by-two, keys-four-by-two, spline_two_by_two}
 use Rattle.exact.specs.Limits.{limit, Demand3}
@@ -92,7 +92,7 @@ unturned_ruled_out kept = let far : 23 ≤ 4 = keys_close samples kept 0 (lit< t
 
 -- sheared in pass 1, copied in passes 2 and 3
 pub copied_ruled_out : Demand3 Wrapped Keys 3 2 rows columns samples (rows_pass Wrapped Keys 3 2 rows samples) → ⊥
-unfolding floor remainder round Σ fraction whole tab wrap weigh first mixed source moved bordered picture pictured rows-moved rows_pass
+unfolding floor remainder round Σ fraction whole tab wrap weigh first mixed source moved bordered picture pictured rows_moved rows_pass
 copied_ruled_out kept = let far : 23 ≤ 4 = keys_close (rows_pass Wrapped Keys 3 2 rows samples) kept 3 (lit< tt) in omega arith
 
 -- a flat grey
@@ -110,7 +110,7 @@ abbrev held_between : List ℤ
 held_between = rows_pass Wrapped Keys 3 2 rows (map hold (columns_pass Wrapped Keys 3 2 columns (map hold (rows_pass Wrapped Keys 3 2 rows samples))))
 
 pub held_ruled_out : Demand3 Wrapped Keys 3 2 rows columns samples held_between → ⊥
-unfolding floor remainder round minℤ maxℤ Σ fraction whole tab wrap weigh first mixed source moved bordered picture pictured rows-moved rows_pass columns_pass
+unfolding floor remainder round minℤ maxℤ Σ fraction whole tab wrap weigh first mixed source moved bordered picture pictured rows_moved rows_pass columns_pass
 held_ruled_out kept = let far : 60 ≤ 4 = keys_close held_between kept 5 (lit< tt) in omega arith
 
 -- ---- Keys, 4 by 2 on background 7, rows 10 -20 30 40 and -40 50 -60 70, centre (0,0), A = 1,000, B = 3,000: straightened, 10 -1 5 7 and -30 -17 20 11
@@ -133,7 +133,7 @@ abbrev wrapped_edges : List ℤ
 wrapped_edges = straighten Wrapped Keys 4 2 screen_rows screen_columns screen
 
 pub wrapped_ruled_out : Demand3 (Background (pos 7)) Keys 4 2 screen_rows screen_columns screen wrapped_edges → ⊥
-unfolding floor remainder round Σ fraction whole tab wrap weigh first mixed source moved bordered picture pictured rows-moved straighten
+unfolding floor remainder round Σ fraction whole tab wrap weigh first mixed source moved bordered picture pictured rows_moved straighten
 wrapped_ruled_out kept = let far : 28 ≤ 4 = background_close wrapped_edges kept 1 (lit< tt) in omega arith
 
 -- and in pass 2 alone
@@ -142,7 +142,7 @@ wrapped_columns =
     rows_pass (Background (pos 7)) Keys 4 2 screen_rows (columns_pass Wrapped Keys 4 2 screen_columns (rows_pass (Background (pos 7)) Keys 4 2 screen_rows screen))
 
 pub wrapped_columns_ruled_out : Demand3 (Background (pos 7)) Keys 4 2 screen_rows screen_columns screen wrapped_columns → ⊥
-unfolding floor remainder round Σ fraction whole tab wrap weigh first mixed source moved framed far bordered picture pictured rows-moved rows_pass columns_pass
+unfolding floor remainder round Σ fraction whole tab wrap weigh first mixed source moved framed far bordered picture pictured rows_moved rows_pass columns_pass
 wrapped_columns_ruled_out kept = let far : 30 ≤ 4 = background_close wrapped_columns kept 1 (lit< tt) in omega arith
 
 -- ---- spline, 2 by 2, rows 100 0 and 0 -100, centre (0,0), A = 2,048, B = -1,024: straightened, 100 -8 and -46 -46.
@@ -162,5 +162,5 @@ spline_close v kept i l =
     rw spline_two_by_two at (demand3-close Wrapped Spline 2 2 (shear (pos 2048) 0) (shear (negsuc 1023) 0) corners v (lit< tt) (lit< tt) (omega arith) (λ i l. in_range corners tt i) kept i l)
 
 pub one_prefilter_ruled_out : Demand3 Wrapped Spline 2 2 (shear (pos 2048) 0) (shear (negsuc 1023) 0) corners one_prefilter → ⊥
-unfolding floor remainder round Σ fraction whole tab wrap weigh filter run u down back v scaled coefficient first mixed source moved bordered picture pictured rows-moved rows_pass
+unfolding floor remainder round Σ fraction whole tab wrap weigh filter run u down back v scaled coefficient first mixed source moved bordered picture pictured rows_moved rows_pass
 one_prefilter_ruled_out kept = let far : 73 ≤ 20 = spline_close one_prefilter kept 0 (lit< tt) in omega arith

@@ -12,7 +12,7 @@ use Rattle.kernels.specs.Kernel.{weigh}
 use Rattle.moves.specs.Move.{first, mixed, source, moved}
 use Rattle.moves.specs.Border.{bordered, gone, fraction_in}
 use Rattle.lists.specs.Picture.{picture, pictured}
-use Rattle.passes.specs.Picture.{rows-moved, straighten}
+use Rattle.passes.specs.Picture.{rows_moved, straighten}
 use Rattle.passes.specs.Count.{interpolated, count}
 use Rattle.steps.specs.Step.{entry, S}
 use Rattle.acceptance.specs.Judge.{bad_centre}
@@ -57,5 +57,5 @@ answers =
     ∷ []
 
 pub lines_answered : map answer_of lines ≡ answers
-unfolding tab cat floor remainder round Σ fraction whole wrap weigh first mixed source moved bordered picture pictured rows-moved straighten gone fraction_in interpolated count beyond_of entry S bad_side bad_size bad_centre bad_kernel is_digit all_digits digit_value value_from hex_value digit_of places_of hex_digits signed16 word32 field_at well_formed sample_at samples_in setting_in number_of count_of straightened_of refusal_text samples_text accepted_text judged_text answer_of
+unfolding tab cat floor remainder round Σ fraction whole wrap weigh first mixed source moved bordered picture pictured rows_moved straighten gone fraction_in interpolated count beyond_of entry S bad_side bad_size bad_centre bad_kernel is_digit all_digits digit_value value_from hex_value digit_of places_of hex_digits signed16 word32 field_at well_formed sample_at samples_in setting_in number_of count_of straightened_of refusal_text samples_text accepted_text judged_text answer_of
 lines_answered = refl

@@ -22,21 +22,21 @@ use Rattle.moves.specs.Move.{first, mixed, source, moved}
 use Rattle.moves.specs.Border.{framed, far, bordered, gone, fraction_in}
 use Rattle.moves.specs.Range.{InRange, Raised, RaisedWithin}
 use Rattle.lists.specs.Picture.{picture, pictured}
-use Rattle.passes.specs.Picture.{shear, rows-moved, straighten}
+use Rattle.passes.specs.Picture.{shear, rows_moved, straighten}
 use Rattle.passes.specs.Count.{interpolated, count}
 use Rattle.passes.proofs.Stages.{rows_pass, columns_pass, straighten_stages}
 
 -- 2 by 2, centre (0,0), A = 2,048, B = -1,024
 spline_two_by_two_one : rows_pass Wrapped Spline 2 2 (shear (pos 2048) 0) (pos 100 ∷ pos 0 ∷ pos 0 ∷ negsuc 99 ∷ []) ≡ (pos 100 ∷ pos 0 ∷ negsuc 49 ∷ negsuc 49 ∷ [])
-unfolding floor remainder round Σ fraction whole tab wrap weigh filter run u down back v scaled coefficient first mixed source moved bordered picture pictured rows-moved rows_pass columns_pass
+unfolding floor remainder round Σ fraction whole tab wrap weigh filter run u down back v scaled coefficient first mixed source moved bordered picture pictured rows_moved rows_pass columns_pass
 spline_two_by_two_one = refl
 
 spline_two_by_two_two : columns_pass Wrapped Spline 2 2 (shear (negsuc 1023) 0) (pos 100 ∷ pos 0 ∷ negsuc 49 ∷ negsuc 49 ∷ []) ≡ (pos 100 ∷ negsuc 7 ∷ negsuc 49 ∷ negsuc 41 ∷ [])
-unfolding floor remainder round Σ fraction whole tab wrap weigh filter run u down back v scaled coefficient first mixed source moved bordered picture pictured rows-moved rows_pass columns_pass
+unfolding floor remainder round Σ fraction whole tab wrap weigh filter run u down back v scaled coefficient first mixed source moved bordered picture pictured rows_moved rows_pass columns_pass
 spline_two_by_two_two = refl
 
 spline_two_by_two_three : rows_pass Wrapped Spline 2 2 (shear (pos 2048) 0) (pos 100 ∷ negsuc 7 ∷ negsuc 49 ∷ negsuc 41 ∷ []) ≡ (pos 100 ∷ negsuc 7 ∷ negsuc 45 ∷ negsuc 45 ∷ [])
-unfolding floor remainder round Σ fraction whole tab wrap weigh filter run u down back v scaled coefficient first mixed source moved bordered picture pictured rows-moved rows_pass columns_pass
+unfolding floor remainder round Σ fraction whole tab wrap weigh filter run u down back v scaled coefficient first mixed source moved bordered picture pictured rows_moved rows_pass columns_pass
 spline_two_by_two_three = refl
 
 pub spline_two_by_two : straighten Wrapped Spline 2 2 (shear (pos 2048) 0) (shear (negsuc 1023) 0) (pos 100 ∷ pos 0 ∷ pos 0 ∷ negsuc 99 ∷ []) ≡ (pos 100 ∷ negsuc 7 ∷ negsuc 45 ∷ negsuc 45 ∷ [])
@@ -46,15 +46,15 @@ spline_two_by_two =
 
 -- 2 by 3, centre (1,0), A = -3,000, B = 2,000, samples at both ends of the range
 spline_two_by_three_one : rows_pass Wrapped Spline 2 3 (shear (negsuc 2999) 0) (pos 32767 ∷ negsuc 32766 ∷ pos 0 ∷ pos 5 ∷ negsuc 4 ∷ pos 9000 ∷ []) ≡ (pos 32767 ∷ negsuc 32766 ∷ pos 4 ∷ pos 1 ∷ pos 4972 ∷ pos 4023 ∷ [])
-unfolding floor remainder round Σ fraction whole tab wrap weigh filter run u down back v scaled coefficient first mixed source moved bordered picture pictured rows-moved rows_pass columns_pass
+unfolding floor remainder round Σ fraction whole tab wrap weigh filter run u down back v scaled coefficient first mixed source moved bordered picture pictured rows_moved rows_pass columns_pass
 spline_two_by_three_one = refl
 
 spline_two_by_three_two : columns_pass Wrapped Spline 2 3 (shear (pos 2000) 1) (pos 32767 ∷ negsuc 32766 ∷ pos 4 ∷ pos 1 ∷ pos 4972 ∷ pos 4023 ∷ []) ≡ (pos 19717 ∷ negsuc 32766 ∷ negsuc 5149 ∷ pos 1 ∷ pos 23176 ∷ pos 4023 ∷ [])
-unfolding floor remainder round Σ fraction whole tab wrap weigh filter run u down back v scaled coefficient first mixed source moved bordered picture pictured rows-moved rows_pass columns_pass
+unfolding floor remainder round Σ fraction whole tab wrap weigh filter run u down back v scaled coefficient first mixed source moved bordered picture pictured rows_moved rows_pass columns_pass
 spline_two_by_three_two = refl
 
 spline_two_by_three_three : rows_pass Wrapped Spline 2 3 (shear (negsuc 2999) 0) (pos 19717 ∷ negsuc 32766 ∷ negsuc 5149 ∷ pos 1 ∷ pos 23176 ∷ pos 4023 ∷ []) ≡ (pos 19717 ∷ negsuc 32766 ∷ negsuc 907 ∷ negsuc 4240 ∷ pos 12591 ∷ pos 14608 ∷ [])
-unfolding floor remainder round Σ fraction whole tab wrap weigh filter run u down back v scaled coefficient first mixed source moved bordered picture pictured rows-moved rows_pass columns_pass
+unfolding floor remainder round Σ fraction whole tab wrap weigh filter run u down back v scaled coefficient first mixed source moved bordered picture pictured rows_moved rows_pass columns_pass
 spline_two_by_three_three = refl
 
 pub spline_two_by_three : straighten Wrapped Spline 2 3 (shear (negsuc 2999) 0) (shear (pos 2000) 1) (pos 32767 ∷ negsuc 32766 ∷ pos 0 ∷ pos 5 ∷ negsuc 4 ∷ pos 9000 ∷ []) ≡ (pos 19717 ∷ negsuc 32766 ∷ negsuc 907 ∷ negsuc 4240 ∷ pos 12591 ∷ pos 14608 ∷ [])
@@ -66,7 +66,7 @@ spline_two_by_three =
 pub keys-three-by-two :
     straighten Wrapped Keys 3 2 (shear (pos 1000) 1) (shear (negsuc 2999) 2) (pos 10 ∷ negsuc 19 ∷ pos 30 ∷ negsuc 39 ∷ pos 50 ∷ negsuc 59 ∷ [])
     ≡ negsuc 12 ∷ pos 43 ∷ pos 18 ∷ negsuc 16 ∷ negsuc 0 ∷ negsuc 59 ∷ []
-unfolding floor remainder round Σ fraction whole tab wrap weigh first mixed source moved bordered picture pictured rows-moved straighten
+unfolding floor remainder round Σ fraction whole tab wrap weigh first mixed source moved bordered picture pictured rows_moved straighten
 keys-three-by-two = refl
 
 pub keys_three_by_two_count : count Wrapped 3 2 (shear (pos 1000) 1) (shear (negsuc 2999) 2) ≡ 4
@@ -79,7 +79,7 @@ pub keys-four-by-two :
     straighten (Background (pos 7)) Keys 4 2 (shear (pos 1000) 0) (shear (pos 3000) 0)
     (pos 10 ∷ negsuc 19 ∷ pos 30 ∷ pos 40 ∷ negsuc 39 ∷ pos 50 ∷ negsuc 59 ∷ pos 70 ∷ [])
     ≡ pos 10 ∷ negsuc 0 ∷ pos 5 ∷ pos 7 ∷ negsuc 29 ∷ negsuc 16 ∷ pos 20 ∷ pos 11 ∷ []
-unfolding floor remainder round Σ fraction whole tab wrap weigh first mixed source moved framed far bordered picture pictured rows-moved straighten
+unfolding floor remainder round Σ fraction whole tab wrap weigh first mixed source moved framed far bordered picture pictured rows_moved straighten
 keys-four-by-two = refl
 
 pub keys-four-by-two-counts :
@@ -108,7 +108,7 @@ abbrev peak : List ℤ
 peak = pos 0 ∷ pos 0 ∷ pos 0 ∷ pos 0 ∷ pos 0 ∷ pos 16 ∷ pos 0 ∷ pos 0 ∷ []
 
 keys_peak : straighten Wrapped Keys 2 4 still half peak ≡ pos 0 ∷ negsuc 0 ∷ pos 0 ∷ pos 9 ∷ pos 0 ∷ pos 9 ∷ pos 0 ∷ negsuc 0 ∷ []
-unfolding floor remainder round Σ fraction whole tab wrap weigh first mixed source moved bordered picture pictured rows-moved rows_pass columns_pass
+unfolding floor remainder round Σ fraction whole tab wrap weigh first mixed source moved bordered picture pictured rows_moved rows_pass columns_pass
 keys_peak = halfway Keys 4 peak (pos 0 ∷ negsuc 0 ∷ pos 0 ∷ pos 9 ∷ pos 0 ∷ pos 9 ∷ pos 0 ∷ negsuc 0 ∷ []) (lit< tt) refl refl refl
 
 pub keys_overshoots : InRange Wrapped 8 peak (straighten Wrapped Keys 2 4 still half peak) → ⊥
@@ -119,7 +119,7 @@ abbrev edge : List ℤ
 edge = pos 0 ∷ pos 0 ∷ pos 0 ∷ pos 0 ∷ pos 0 ∷ pos 100 ∷ []
 
 spline_edge : straighten Wrapped Spline 2 3 still half edge ≡ pos 0 ∷ negsuc 24 ∷ pos 0 ∷ pos 62 ∷ pos 0 ∷ pos 62 ∷ []
-unfolding floor remainder round Σ fraction whole tab wrap weigh filter run u down back v scaled coefficient first mixed source moved bordered picture pictured rows-moved rows_pass columns_pass
+unfolding floor remainder round Σ fraction whole tab wrap weigh filter run u down back v scaled coefficient first mixed source moved bordered picture pictured rows_moved rows_pass columns_pass
 spline_edge = halfway Spline 3 edge (pos 0 ∷ negsuc 24 ∷ pos 0 ∷ pos 62 ∷ pos 0 ∷ pos 62 ∷ []) (lit< tt) refl refl refl
 
 pub spline_overshoots : InRange Wrapped 6 edge (straighten Wrapped Spline 2 3 still half edge) → ⊥
@@ -134,11 +134,11 @@ abbrev six : List ℤ
 six = pos 1 ∷ pos 6 ∷ pos 1 ∷ pos 1 ∷ []
 
 spline_five : straighten Wrapped Spline 2 2 still half five ≡ pos 0 ∷ pos 2 ∷ pos 0 ∷ pos 2 ∷ []
-unfolding floor remainder round Σ fraction whole tab wrap weigh filter run u down back v scaled coefficient first mixed source moved bordered picture pictured rows-moved rows_pass columns_pass
+unfolding floor remainder round Σ fraction whole tab wrap weigh filter run u down back v scaled coefficient first mixed source moved bordered picture pictured rows_moved rows_pass columns_pass
 spline_five = halfway Spline 2 five (pos 0 ∷ pos 2 ∷ pos 0 ∷ pos 2 ∷ []) (lit< tt) refl refl refl
 
 spline_six : straighten Wrapped Spline 2 2 still half six ≡ pos 1 ∷ pos 4 ∷ pos 1 ∷ pos 4 ∷ []
-unfolding floor remainder round Σ fraction whole tab wrap weigh filter run u down back v scaled coefficient first mixed source moved bordered picture pictured rows-moved rows_pass columns_pass
+unfolding floor remainder round Σ fraction whole tab wrap weigh filter run u down back v scaled coefficient first mixed source moved bordered picture pictured rows_moved rows_pass columns_pass
 spline_six = halfway Spline 2 six (pos 1 ∷ pos 4 ∷ pos 1 ∷ pos 4 ∷ []) (lit< tt) refl refl refl
 
 pub spline_adds_not : Raised (pos 1) 4 (straighten Wrapped Spline 2 2 still half five) (straighten Wrapped Spline 2 2 still half six) → ⊥
@@ -158,11 +158,11 @@ abbrev eight : List ℤ
 eight = pos 8 ∷ pos 13 ∷ pos 10 ∷ pos 5 ∷ []
 
 spline_seven : straighten Wrapped Spline 2 2 tilt tilt seven ≡ pos 7 ∷ pos 9 ∷ pos 7 ∷ pos 7 ∷ []
-unfolding floor remainder round Σ fraction whole tab wrap weigh filter run u down back v scaled coefficient first mixed source moved bordered picture pictured rows-moved rows_pass columns_pass
+unfolding floor remainder round Σ fraction whole tab wrap weigh filter run u down back v scaled coefficient first mixed source moved bordered picture pictured rows_moved rows_pass columns_pass
 spline_seven = staged Spline 2 tilt tilt seven (pos 7 ∷ pos 12 ∷ pos 6 ∷ pos 6 ∷ []) (pos 7 ∷ pos 9 ∷ pos 6 ∷ pos 9 ∷ []) (pos 7 ∷ pos 9 ∷ pos 7 ∷ pos 7 ∷ []) (lit< tt) refl refl refl
 
 spline_eight : straighten Wrapped Spline 2 2 tilt tilt eight ≡ pos 8 ∷ pos 11 ∷ pos 10 ∷ pos 10 ∷ []
-unfolding floor remainder round Σ fraction whole tab wrap weigh filter run u down back v scaled coefficient first mixed source moved bordered picture pictured rows-moved rows_pass columns_pass
+unfolding floor remainder round Σ fraction whole tab wrap weigh filter run u down back v scaled coefficient first mixed source moved bordered picture pictured rows_moved rows_pass columns_pass
 spline_eight = staged Spline 2 tilt tilt eight (pos 8 ∷ pos 13 ∷ pos 8 ∷ pos 8 ∷ []) (pos 8 ∷ pos 11 ∷ pos 8 ∷ pos 11 ∷ []) (pos 8 ∷ pos 11 ∷ pos 10 ∷ pos 10 ∷ []) (lit< tt) refl refl refl
 
 pub spline_past_one : RaisedWithin 1 (pos 1) 4 (straighten Wrapped Spline 2 2 tilt tilt seven) (straighten Wrapped Spline 2 2 tilt tilt eight) → ⊥

@@ -15,7 +15,7 @@ use Rattle.moves.specs.Border.{grey}
 use Rattle.moves.specs.Range.{raised, Raised, RaisedWithin}
 use Rattle.moves.proofs.Nearly.{Nearly, nearly_equal, onward, bordered_nearly}
 use Rattle.lists.specs.Picture.{Picture, picture, Places}
-use Rattle.passes.specs.Picture.{rows-moved, after_one, after_two, straightened, straighten}
+use Rattle.passes.specs.Picture.{rows_moved, after_one, after_two, straightened, straighten}
 use Rattle.lists.proofs.Picture.{inside, at_index}
 use Rattle.passes.proofs.Places.{straighten_at}
 use Rattle.passes.proofs.Reach.{row_small, grey_small, sample_range, after_one_range, after_two_range}
@@ -23,8 +23,8 @@ use Rattle.passes.proofs.Reach.{row_small, grey_small, sample_range, after_one_r
 -- ---- one pass
 rows_nearly : (β : Border) {W H : ℕ} (move : ℕ → ℤ) {X Y : Picture} (c m : ℤ) → 0 < W → pos 0 ≤ℤ m → Within (pos 294912) (grey β) → Within (pos 294912) (grey (raised c β))
     → Places W H (λ y x. Within (pos 294912) (X y x)) → Places W H (λ y x. Within (pos 294912) (Y y x)) → Places W H (λ y x. Nearly m c (X y x) (Y y x))
-    → Places W H (λ y x. Nearly (onward m) c (rows-moved β Spline W move X y x) (rows-moved (raised c β) Spline W move Y y x))
-unfolding rows-moved
+    → Places W H (λ y x. Nearly (onward m) c (rows_moved β Spline W move X y x) (rows_moved (raised c β) Spline W move Y y x))
+unfolding rows_moved
 rows_nearly β move c m h hm outer outer' small small' each y x hy hx =
     bordered_nearly β c m h hm outer outer' (λ k l. small y k hy l) (λ k l. small' y k hy l) (λ k l. each y k hy l) (move y) x
 

@@ -11,15 +11,15 @@ use Rattle.kernels.specs.Kernel.{Kernel, Linear, Spline}
 use Rattle.moves.specs.Range.{lowest, highest, Between, InRange, raised, Raised}
 use Rattle.moves.proofs.Range.{OnBackground, background_between, samples_between, bordered-between, bordered-raised, fraction-raised}
 use Rattle.lists.specs.Picture.{Picture, picture, Places}
-use Rattle.passes.specs.Picture.{turned, rows-moved, after_one, after_two, straightened, straighten}
+use Rattle.passes.specs.Picture.{turned, rows_moved, after_one, after_two, straightened, straighten}
 use Rattle.passes.specs.Count.{interpolated, count}
 use Rattle.lists.proofs.Picture.{inside, at_index}
 use Rattle.passes.proofs.Places.{straighten_at}
 
 -- ---- the range
 rows-between : (β : Border) {W H : ℕ} (move : ℕ → ℤ) {X : Picture} (low high : ℤ) → 0 < W → OnBackground (Between low high) β
-    → Places W H (λ y x. Between low high (X y x)) → Places W H (λ y x. Between low high (rows-moved β Linear W move X y x))
-unfolding rows-moved
+    → Places W H (λ y x. Between low high (X y x)) → Places W H (λ y x. Between low high (rows_moved β Linear W move X y x))
+unfolding rows_moved
 rows-between β move low high h outer each y x hy hx = bordered-between β low high h outer (λ k l. each y k hy l) (move y) x
 
 module _ (β : Border) {W H : ℕ} (rows columns : ℕ → ℤ) (hW : 0 < W) (hH : 0 < H) where
@@ -47,8 +47,8 @@ module _ (β : Border) {W H : ℕ} (rows columns : ℕ → ℤ) (hW : 0 < W) (hH
 
 -- ---- a number added
 rows-raised : (β : Border) (κ : Kernel) → (κ ≡ Spline → ⊥) → {W H : ℕ} (move : ℕ → ℤ) (X Y : Picture) (c : ℤ) → 0 < W
-    → Places W H (λ y x. Y y x ≡ X y x +ℤ c) → Places W H (λ y x. rows-moved (raised c β) κ W move Y y x ≡ rows-moved β κ W move X y x +ℤ c)
-unfolding rows-moved
+    → Places W H (λ y x. Y y x ≡ X y x +ℤ c) → Places W H (λ y x. rows_moved (raised c β) κ W move Y y x ≡ rows_moved β κ W move X y x +ℤ c)
+unfolding rows_moved
 rows-raised β κ not-spline {W} move X Y c h each y x hy hx = bordered-raised β W (X y) (Y y) c h (λ k l. each y k hy l) κ not-spline (move y) x
 
 module _ (β : Border) (κ : Kernel) (not-spline : κ ≡ Spline → ⊥) {W H : ℕ} (rows columns : ℕ → ℤ) (hW : 0 < W) (hH : 0 < H) (c : ℤ) where

@@ -14,7 +14,7 @@ use Rattle.moves.specs.Border.{grey}
 use Rattle.moves.proofs.Reach.{reach}
 use Rattle.moves.proofs.Border.{bordered_reach, reach_more}
 use Rattle.lists.specs.Picture.{Picture, picture, Places}
-use Rattle.passes.specs.Picture.{turned, rows-moved, after_one, after_two, straightened, straighten}
+use Rattle.passes.specs.Picture.{turned, rows_moved, after_one, after_two, straightened, straighten}
 use Rattle.lists.proofs.Picture.{inside, at_index}
 use Rattle.passes.proofs.Places.{straighten_at}
 
@@ -33,8 +33,8 @@ pub grey_small : {M : ℕ} (β : Border) → M ≤ 294912 → Within (pos M) (gr
 grey_small {M} β fits outer = widen (pos M) (pos 294912) (grey β) outer (pos-≤ℤ fits)
 
 rows_reach : (β : Border) (κ : Kernel) {W H : ℕ} (move : ℕ → ℤ) {X : Picture} (M : ℕ) → 0 < W → M ≤ 294912 → Within (pos M) (grey β) → Ranged W H M X
-    → Ranged W H (reach κ M) (rows-moved β κ W move X)
-unfolding rows-moved
+    → Ranged W H (reach κ M) (rows_moved β κ W move X)
+unfolding rows_moved
 rows_reach β κ move M h fits outer range = record { place = λ y x hy hx. bordered_reach β M h fits outer (λ k l. range.place y k hy l) κ (move y) x }
 
 -- ---- three passes

@@ -15,18 +15,18 @@ abbrev pub shear : ℤ → ℕ → ℕ → ℤ
 shear A c i = A *ℤ (pos i -ℤ pos c)
 
 -- one pass over rows under a border: `move y` is the d of row y
-unfoldable pub rows-moved : Border → Kernel → ℕ → (ℕ → ℤ) → Picture → Picture
-rows-moved β κ W move p y = bordered β κ W (move y) (p y)
+unfoldable pub rows_moved : Border → Kernel → ℕ → (ℕ → ℤ) → Picture → Picture
+rows_moved β κ W move p y = bordered β κ W (move y) (p y)
 
 -- pass 1 moves the rows, pass 2 the columns, pass 3 the rows again, each from the samples that the pass before it left
 abbrev pub after_one : Border → Kernel → ℕ → (ℕ → ℤ) → Picture → Picture
-after_one β κ W rows p = rows-moved β κ W rows p
+after_one β κ W rows p = rows_moved β κ W rows p
 
 abbrev pub after_two : Border → Kernel → ℕ → ℕ → (ℕ → ℤ) → (ℕ → ℤ) → Picture → Picture
-after_two β κ W H rows columns p = turned (rows-moved β κ H columns (turned (after_one β κ W rows p)))
+after_two β κ W H rows columns p = turned (rows_moved β κ H columns (turned (after_one β κ W rows p)))
 
 abbrev pub straightened : Border → Kernel → ℕ → ℕ → (ℕ → ℤ) → (ℕ → ℤ) → Picture → Picture
-straightened β κ W H rows columns p = rows-moved β κ W rows (after_two β κ W H rows columns p)
+straightened β κ W H rows columns p = rows_moved β κ W rows (after_two β κ W H rows columns p)
 
 -- the same of a flat list: the W-as-H samples that the call writes
 unfoldable pub straighten : Border → Kernel → ℕ → ℕ → (ℕ → ℤ) → (ℕ → ℤ) → List ℤ → List ℤ

@@ -23,7 +23,7 @@ use Rattle.kernels.specs.Kernel.{Kernel}
 use Rattle.moves.specs.Range.{InRange}
 use Rattle.moves.proofs.Range.{extremes_in_range, kernel_linear}
 use Rattle.lists.specs.Picture.{Picture, picture, Places}
-use Rattle.passes.specs.Picture.{straighten, rows-moved}
+use Rattle.passes.specs.Picture.{straighten, rows_moved}
 use Rattle.passes.specs.Count.{count}
 use Rattle.lists.proofs.Picture.{inside, pictured_same}
 use Rattle.passes.proofs.Places.{straighten_at}
@@ -49,7 +49,7 @@ module _ (β : Border) (κ : Kernel) (W H : ℕ) (rows columns : ℕ → ℤ) (s
   first_same : rows_pass β κ W H rows (take (W * H) s) ≡ rows_pass β κ W H rows s
   unfolding rows_pass
   first_same =
-      pictured_same (rows-moved β κ W rows (picture W (take (W * H) s))) (rows-moved β κ W rows (picture W s)) hW
+      pictured_same (rows_moved β κ W rows (picture W (take (W * H) s))) (rows_moved β κ W rows (picture W s)) hW
       (λ y x hy hx. moved_row_alone β κ W rows (picture W (take (W * H) s)) (picture W s) y hW (λ k l. places_same y k hy l) x)
 
   pub straighten_takes : straighten β κ W H rows columns (take (W * H) s) ≡ straighten β κ W H rows columns s

@@ -18,7 +18,7 @@ use Rattle.kernels.specs.Kernel.{weigh, Keys}
 use Rattle.moves.specs.Move.{first, mixed, source, moved}
 use Rattle.moves.specs.Border.{far, gone, fraction_in, bordered, bad_background}
 use Rattle.lists.specs.Picture.{picture, pictured}
-use Rattle.passes.specs.Picture.{rows-moved, straighten}
+use Rattle.passes.specs.Picture.{rows_moved, straighten}
 use Rattle.passes.specs.Count.{interpolated, count}
 use Rattle.acceptance.specs.Judge.{too_short, bad_centre, bad_shears, judged_on}
 use Rattle.pictures.specs.declared.Outcome.{Outcome}
@@ -63,11 +63,11 @@ abbrev extremes : Outcome → List ℤ
 extremes o = smallest_of o ∷ largest_of o ∷ []
 
 result_extremes : extremes (answered 32768) ∷ extremes (answered 5000) ∷ [] ≡ (pos 0 ∷ pos 0 ∷ []) ∷ (pos 1459 ∷ pos 6419 ∷ []) ∷ []
-unfolding picked minℤ maxℤ straighten pictured picture rows-moved bordered moved source mixed first weigh Σ wrap tab round whole judged_on bad_size bad_side too_short short bad_centre bad_shears bad_kernel bad_background first_bad first_from beyond_of floor remainder fraction gone fraction_in interpolated count
+unfolding picked minℤ maxℤ straighten pictured picture rows_moved bordered moved source mixed first weigh Σ wrap tab round whole judged_on bad_size bad_side too_short short bad_centre bad_shears bad_kernel bad_background first_bad first_from beyond_of floor remainder fraction gone fraction_in interpolated count
 result_extremes = refl
 
 rows_extremes : smallest_in_rows 3 2 (third_rows 3 2 asked (samples 5000)) ∷ largest_in_rows 3 2 (third_rows 3 2 asked (samples 5000)) ∷ [] ≡ pos 1459 ∷ pos 6419 ∷ []
-unfolding picked minℤ maxℤ picture rows-moved bordered moved source mixed first weigh Σ wrap round whole floor remainder fraction
+unfolding picked minℤ maxℤ picture rows_moved bordered moved source mixed first weigh Σ wrap round whole floor remainder fraction
 rows_extremes = refl
 
 -- a picture of 2 by 9 with centre (0,0) and A = 1,000: wrapped, its rows 1 to 8 are interpolated twice; on background row 8 moves by less than

@@ -10,7 +10,7 @@ use Rattle.settings.specs.declared.Border.{Border}
 use Rattle.settings.specs.declared.Setting.{Setting}
 use Rattle.kernels.specs.Kernel.{Kernel, kernel_of}
 use Rattle.lists.specs.Picture.{Picture, Places, picture}
-use Rattle.passes.specs.Picture.{shear, rows-moved, after_one, after_two, turned, straightened, straighten}
+use Rattle.passes.specs.Picture.{shear, rows_moved, after_one, after_two, turned, straightened, straighten}
 use Rattle.lists.proofs.Picture.{length-pictured, picture-pictured, pictured_same}
 use Rattle.passes.proofs.Rows.{moved_row_alone}
 use Rattle.planes.specs.declared.Slices.{Slices}
@@ -47,10 +47,10 @@ abbrev pub Local : ℕ → ℕ → (Picture → Picture) → Type 0
 Local W H f = (p p' : Picture) → Places W H (λ y x. p y x ≡ p' y x) → Places W H (λ y x. f p y x ≡ f p' y x)
 
 module _ (β : Border) (κ : Kernel) (W H : ℕ) where
-  pub rows_local : (rows : ℕ → ℤ) → 0 < W → Local W H (rows-moved β κ W rows)
+  pub rows_local : (rows : ℕ → ℤ) → 0 < W → Local W H (rows_moved β κ W rows)
   rows_local rows wide p p' same y x hy hx = moved_row_alone β κ W rows p p' y wide (λ k l. same y k hy l) x
 
-  pub columns_local : (columns : ℕ → ℤ) → 0 < H → Local W H (λ p. turned (rows-moved β κ H columns (turned p)))
+  pub columns_local : (columns : ℕ → ℤ) → 0 < H → Local W H (λ p. turned (rows_moved β κ H columns (turned p)))
   columns_local columns high p p' same y x hy hx = moved_row_alone β κ H columns (turned p) (turned p') x high (λ k l. same k x l hx) y
 
   pub straightened_local : (rows columns : ℕ → ℤ) → 0 < W → 0 < H → Local W H (straightened β κ W H rows columns)

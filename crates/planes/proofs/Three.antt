@@ -17,7 +17,7 @@ use Rattle.kernels.specs.Kernel.{Kernel}
 use Rattle.moves.specs.Border.{bordered, grey}
 use Rattle.moves.proofs.Border.{bordered_local, move_in_at, places_few}
 use Rattle.lists.specs.Picture.{Places}
-use Rattle.passes.specs.Picture.{turned, rows-moved, after_one, after_two, straightened}
+use Rattle.passes.specs.Picture.{turned, rows_moved, after_one, after_two, straightened}
 use Rattle.passes.proofs.Reach.{after_one_range, after_two_range}
 use Rattle.shears.specs.Pass.{moved_at, lines_moved}
 use Rattle.planes.specs.declared.Slices.{Slices}
@@ -40,8 +40,8 @@ module _ (β : Border) (κ : Kernel) (moves : ℕ → ℤ) {n lines along across
   -- every line is its moved line
   lines-moved_at : Places n lines
       (λ y k. get_or (lines_moved β κ moves n along across lines list) (y * across + k * along) (pos 0)
-      ≡ rows-moved β κ n moves (λ y k. line list (y * across + k * along)) y k)
-  unfolding rows-moved
+      ≡ rows_moved β κ n moves (λ y k. line list (y * across + k * along)) y k)
+  unfolding rows_moved
   lines-moved_at y k hy hk =
       behind n lines along across (moved_at β κ moves) (length list) g lines list y hy (omega arith) refl k hk
       ∙ move_in_at β κ (moves y) own k (omega (arith, len))
@@ -56,7 +56,7 @@ module _ (β : Border) (κ : Kernel) (moves : ℕ → ℤ) {n lines along across
 
 pub passed_treated : (β : Border) (κ : Kernel) (moves : ℕ → ℤ) (s : Slices) (list list' : List ℤ) → 0 < s.columns → Apart (first_slices 1 s) (length list)
     → list' ≡ lines_moved β κ moves s.columns s.along s.across s.rows list
-    → Treated (λ j. rows-moved β κ s.columns moves) (first_slices 1 s) list list'
+    → Treated (λ j. rows_moved β κ s.columns moves) (first_slices 1 s) list list'
 passed_treated β κ moves s list list' wide lie e =
     record {
       slices = λ j y x hj hy hx. at_first j (only j hj) y x hy hx;
@@ -64,7 +64,7 @@ passed_treated β κ moves s list list' wide lie e =
     }
   where
     at_first : (j : ℕ) → j ≡ 0
-        → Places s.columns s.rows (λ y x. slice (first_slices 1 s) list' j y x ≡ rows-moved β κ s.columns moves (slice (first_slices 1 s) list j) y x)
+        → Places s.columns s.rows (λ y x. slice (first_slices 1 s) list' j y x ≡ rows_moved β κ s.columns moves (slice (first_slices 1 s) list j) y x)
     at_first j none y x hy hx =
         rw (none, e)
         (ap (line (lines_moved β κ moves s.columns s.along s.across s.rows list)) (from_first s.step (y * s.across + x * s.along))
@@ -75,7 +75,7 @@ passed_treated β κ moves s list list' wide lie e =
 -- ---- rows of slices exchanged
 pub exchanged_swept : (β : Border) (κ : Kernel) (a : ℤ) (c : ℕ) (s : Slices) (list list' : List ℤ) → 0 < s.columns
     → Swept β κ (move_at true a c) (exchanged s) list list' → Swept β κ (move_at false a c) s list list'
-unfolding rows-moved
+unfolding rows_moved
 exchanged_swept β κ a c s list list' wide done =
     record {
       slices = λ i y x hi hy hx.

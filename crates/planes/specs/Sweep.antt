@@ -7,7 +7,7 @@ use Rattle.kernels.specs.Kernel.{Kernel, kernel_of}
 use Rattle.moves.specs.Border.{grey}
 use Rattle.moves.specs.Row.{places}
 use Rattle.lists.specs.Picture.{Picture}
-use Rattle.passes.specs.Picture.{shear, rows-moved, straightened}
+use Rattle.passes.specs.Picture.{shear, rows_moved, straightened}
 use Rattle.acceptance.specs.Judge.{FitSetting}
 use Rattle.offsets.specs.declared.Moves.{Moves}
 use Rattle.offsets.specs.declared.Moves.TheVariants.{Sheared, Alike}
@@ -34,7 +34,7 @@ move_at alike a c i = move_of (moves_at alike a c i)
 
 -- row y of slice i is moved by `move i y`
 abbrev pub Swept : Border → Kernel → (ℕ → ℕ → ℤ) → Slices → List ℤ → List ℤ → Type 0
-Swept β κ move s = Treated (λ i. rows-moved β κ s.columns (move i)) s
+Swept β κ move s = Treated (λ i. rows_moved β κ s.columns (move i)) s
 
 -- every slice is document 01's three passes of what it was
 abbrev pub Straightened : Slices → Setting → List ℤ → List ℤ → Type 0

@@ -18,7 +18,7 @@ use Rattle.spline.specs.Coefficients.{filter, run, u, down, back, v, scaled, coe
 use Rattle.moves.specs.Move.{first, mixed, source, moved, move}
 use Rattle.moves.specs.Border.{framed, far, bordered, move_in, gone, fraction_in}
 use Rattle.lists.specs.Picture.{picture, pictured}
-use Rattle.passes.specs.Picture.{shear, rows-moved, straighten}
+use Rattle.passes.specs.Picture.{shear, rows_moved, straighten}
 use Rattle.passes.specs.Count.{interpolated, count}
 use Rattle.samples.specs.Starred as S
 use Rattle.samples.specs.Starred.{Row, Carried, starred}
@@ -84,15 +84,15 @@ each (r ∷ rs) t (suc k) l z = each rs (both (test r) (all rs) t).1 k (le_of_su
 
 -- the one computation over the starred rows, and the one over ours
 all_pass : T (all starred)
-unfolding floor remainder round Σ fraction whole tab wrap weigh filter run u down back v scaled coefficient first mixed source moved move framed far bordered move_in gone fraction_in picture pictured rows-moved straighten interpolated count
+unfolding floor remainder round Σ fraction whole tab wrap weigh filter run u down back v scaled coefficient first mixed source moved move framed far bordered move_in gone fraction_in picture pictured rows_moved straighten interpolated count
 all_pass = tt
 
 further-pass : T (all further)
-unfolding floor remainder round Σ fraction whole tab wrap weigh filter run u down back v scaled coefficient first mixed source moved move framed far bordered move_in gone fraction_in picture pictured rows-moved straighten interpolated count
+unfolding floor remainder round Σ fraction whole tab wrap weigh filter run u down back v scaled coefficient first mixed source moved move framed far bordered move_in gone fraction_in picture pictured rows_moved straighten interpolated count
 further-pass = tt
 
 edges-pass : T (all edges)
-unfolding floor remainder round Σ fraction whole tab wrap weigh filter run u down back v scaled coefficient first mixed source moved move framed far bordered move_in gone fraction_in picture pictured rows-moved straighten interpolated count
+unfolding floor remainder round Σ fraction whole tab wrap weigh filter run u down back v scaled coefficient first mixed source moved move framed far bordered move_in gone fraction_in picture pictured rows_moved straighten interpolated count
 edges-pass = tt
 
 -- the rules carry each starred row's input to its output

@@ -10,7 +10,7 @@ use mir.Val.{to_z, of_z}
 use mir.Facts.{to_z-of_z}
 use Rattle.kernels.specs.Kernel.{kernel_of}
 use Rattle.lists.specs.Picture.{Places}
-use Rattle.passes.specs.Picture.{rows-moved}
+use Rattle.passes.specs.Picture.{rows_moved}
 use Rattle.planes.specs.Slices.{slice, Apart}
 use Rattle.planes.specs.Sweep.{move_at, Swept}
 use Rattle.planes.proofs.Treated.{first_slices, begins, lent_place, lent_apart, treated_back, treated_none, treated_more, to_come}
@@ -112,8 +112,8 @@ loop-again c =
       omega (arith, h),
       same_len_mid (l.loop.i * a.s.step) (length l.loop.list - l.loop.i * a.s.step) l.loop.list v.new.0 v.auto.0 ∙ l.loop.invariant.1,
       v.auto.1.0 ∙ l.loop.invariant.2,
-      treated_more (λ i. rows-moved β κ a.s.columns (move i)) a.s l.loop.i (length a.list.now) a.list.now l.loop.list f.lie h l.loop.invariant.3 _ local
-          (treated_back a.s l.loop.i l.loop.list (lies l) f.columns.0 f.rows.0 h (rows-moved β κ a.s.columns (move l.loop.i)) v.new.0 v.auto.0 local
+      treated_more (λ i. rows_moved β κ a.s.columns (move i)) a.s l.loop.i (length a.list.now) a.list.now l.loop.list f.lie h l.loop.invariant.3 _ local
+          (treated_back a.s l.loop.i l.loop.list (lies l) f.columns.0 f.rows.0 h (rows_moved β κ a.s.columns (move l.loop.i)) v.new.0 v.auto.0 local
           (passed_treated β κ (move l.loop.i) a.s _ v.new.0 f.columns.0 part (rw m.0 at v.ensures))),
     )
 
