@@ -1,6 +1,8 @@
 # The library for C and Rust: builds it, installs it and takes it away again.
 #
-#   make              proves the library and makes target/lib: libstraightener.a and the header that belongs to it
+#   make              both of the next two
+#   make library      proves the library and makes target/lib: libstraightener.a and the header that belongs to it
+#   make program      proves the line program and makes target/bin/straightener
 #   make install      copies both below PREFIX, with a file for pkg-config
 #   make uninstall    removes what install copied
 #
@@ -16,19 +18,30 @@ INSTALL ?= install
 MADE := target/lib
 VERSION = $(shell sed -n 's/^.define STRAIGHTENER_VERSION "\(.*\)"$$/\1/p' $(MADE)/straightener.h)
 
+all: library program
+
+kit:
+	@command -v rt > /dev/null || { echo "make: the Rattle kit's command rt is not on the PATH" >&2; exit 1; }
+
 # The kit names an archive after its crate, and the program has the library's name. The moves come last, so that what is half made is
 # never taken for the library.
-all:
-	@command -v rt > /dev/null || { echo "make: the Rattle kit's command rt is not on the PATH" >&2; exit 1; }
-	rt staticlib exports
+library: kit
+	cd crates/exports && rt lib
 	mkdir -p $(MADE)
 	cp include/straightener.h $(MADE)/header.new
-	cp target/staticlib/libexports.a $(MADE)/archive.new
+	cp crates/exports/out/libexports.a $(MADE)/archive.new
 	mv $(MADE)/header.new $(MADE)/straightener.h
 	mv $(MADE)/archive.new $(MADE)/libstraightener.a
 
+# The kit builds a program to run it: here with no input.
+program: kit
+	cd crates/straightener && rt run < /dev/null
+	mkdir -p target/bin
+	cp crates/straightener/out/straightener target/bin/program.new
+	mv target/bin/program.new target/bin/straightener
+
 $(MADE)/libstraightener.a:
-	$(MAKE) all
+	$(MAKE) library
 
 install: $(MADE)/libstraightener.a
 	@case "$(INCLUDEDIR):$(LIBDIR)" in /*:/*) ;; *) echo "make: PREFIX must begin with /" >&2; exit 1 ;; esac
@@ -45,4 +58,4 @@ uninstall:
 	rm -f "$(DESTDIR)$(INCLUDEDIR)/straightener.h" "$(DESTDIR)$(LIBDIR)/libstraightener.a" \
 	    "$(DESTDIR)$(PKGCONFIGDIR)/straightener.pc"
 
-.PHONY: all install uninstall
+.PHONY: all kit library program install uninstall

@@ -6,7 +6,16 @@
 ghost use Rattle.std.specs.Prelude.{◌≡◌, ◌<◌, ◌≤◌, true, length};
 ghost use Rattle.straightener.specs.Run.{Some, is_more, told_of, TurnDone, Closed, AllDone};
 
-use libc::{STDIN_FILENO, STDOUT_FILENO};
+use std::io;
+use std::io::{Read, Stderr, Stdin, Stdout, Write};
+
+// The standard streams: lines come in, answers go out, and what fails is said beside them.
+#[derive(Drop)]
+struct Streams {
+    input: Stdin,
+    output: Stdout,
+    complaints: Stderr,
+}
 
 // What reading a block came to: so many bytes, the end of the input, or a failure.
 #[derive(Drop)]
@@ -17,7 +26,7 @@ enum Input {
 }
 
 // How a turn went: more input may come, the input has ended, or a read or a write failed.
-#[derive(Drop)]
+#[derive(Clone, Copy)]
 enum How {
     More,
     Ended,
@@ -26,14 +35,14 @@ enum How {
 }
 
 // The bytes handed to `write`, and whether all of them were taken.
-#[derive(Drop)]
+#[derive(Clone, Copy)]
 struct Handed {
     bytes: usize,
     all: bool,
 }
 
 // What a turn came to: the bytes read, the bytes held of an unfinished line, and the bytes handed to `write`.
-#[derive(Drop)]
+#[derive(Clone, Copy)]
 struct Turn {
     how: How,
     read: usize,
@@ -42,10 +51,15 @@ struct Turn {
 }
 
 // What all turns came to: the last one, and how many blocks were read before it.
-#[derive(Drop)]
+#[derive(Clone, Copy)]
 struct Turns {
     last: Turn,
     blocks: u64,
+}
+
+// Room for a block.
+fn block_room() -> [u8; 65536] {
+    [0; 65536]
 }
 
 // Room for the answers to the lines that end in a block.
@@ -53,27 +67,51 @@ fn answer_room() -> [u8; 1048576] {
     [0; 1048576]
 }
 
+// Says on standard error that answers are missing, and why.
+fn report(complaints: &mut Stderr, what: &str, reason: &io::Error) {
+    let _told = writeln!(
+        complaints,
+        "straightener: answers are missing, standard {what}: {reason}"
+    )
+    .is_ok();
+}
+
 // Reads a block.
-fn take_in(block: &mut [u8; 65536]) -> Input
+fn take_in(streams: &mut Streams, block: &mut [u8; 65536]) -> Input
     ensures { Some result }
 {
-    let got = libc::read(STDIN_FILENO, block);
-    if got < 0 {
-        return Input::Failed;
+    match streams.input.read(block) {
+        Ok(0) => Input::Nothing,
+        Ok(n) => Input::Bytes(n),
+        Err(reason) => {
+            report(&mut streams.complaints, "input could not be read", &reason);
+            Input::Failed
+        }
     }
-    if got == 0 {
-        return Input::Nothing;
-    }
-    Input::Bytes(io::count(got, block))
 }
 
 // Writes the first n bytes of out.
-fn hand_over(out: &[u8], n: usize) -> Handed
+fn hand_over(streams: &mut Streams, out: &[u8], n: usize) -> Handed
     requires { n ≤ length out.now }
     ensures { result.bytes ≡ n }
 {
-    let all = io::write_all(STDOUT_FILENO, &out[..n]);
-    Handed { bytes: n, all }
+    match streams.output.write_all(&out[..n]) {
+        Ok(()) => Handed {
+            bytes: n,
+            all: true,
+        },
+        Err(reason) => {
+            report(
+                &mut streams.complaints,
+                "output could not be written",
+                &reason,
+            );
+            Handed {
+                bytes: n,
+                all: false,
+            }
+        }
+    }
 }
 
 // No bytes were handed over.
@@ -95,6 +133,7 @@ fn told(all: bool, how: How) -> How
 
 // A turn with n bytes read: answers the lines that end in them, and holds what is left.
 fn serve(
+    streams: &mut Streams,
     block: &[u8; 65536],
     n: usize,
     carry: &mut [u8; 8215],
@@ -105,7 +144,7 @@ fn serve(
     ensures { TurnDone block.now carry.old carry.new used out.old out.new result }
 {
     let progress = stream::turn(block, n, carry, used, out);
-    let handed = hand_over(out, progress.wrote);
+    let handed = hand_over(streams, out, progress.wrote);
     Turn {
         how: told(handed.all, How::More),
         read: n,
@@ -115,11 +154,11 @@ fn serve(
 }
 
 // The turn at the end of the input: answers a last line that lacks its line feed.
-fn finish(carry: &[u8; 8215], used: usize, out: &mut [u8; 1048576]) -> Turn
+fn finish(streams: &mut Streams, carry: &[u8; 8215], used: usize, out: &mut [u8; 1048576]) -> Turn
     ensures { Closed carry.now used out.old out.new result }
 {
     let wrote = stream::last(carry, used, out);
-    let handed = hand_over(out, wrote);
+    let handed = hand_over(streams, out, wrote);
     Turn {
         how: told(handed.all, How::Ended),
         read: 0,
@@ -130,6 +169,7 @@ fn finish(carry: &[u8; 8215], used: usize, out: &mut [u8; 1048576]) -> Turn
 
 // Reads a block and serves it. After a failure nothing more is written.
 fn next_turn(
+    streams: &mut Streams,
     block: &mut [u8; 65536],
     carry: &mut [u8; 8215],
     used: usize,
@@ -137,10 +177,10 @@ fn next_turn(
 ) -> Turn
     ensures { TurnDone block.new carry.old carry.new used out.old out.new result }
 {
-    let input = take_in(block);
+    let input = take_in(streams, block);
     match input {
-        Input::Bytes(n) => serve(block, n, carry, used, out),
-        Input::Nothing => finish(carry, used, out),
+        Input::Bytes(n) => serve(streams, block, n, carry, used, out),
+        Input::Nothing => finish(streams, carry, used, out),
         Input::Failed => Turn {
             how: How::ReadFailed,
             read: 0,
@@ -163,7 +203,12 @@ fn is_more(how: How) -> bool
 }
 
 // Turn after turn, until one does not go on. The count of blocks bounds the loop alone.
-fn all_turns(block: &mut [u8; 65536], carry: &mut [u8; 8215], out: &mut [u8; 1048576]) -> Turns
+fn all_turns(
+    streams: &mut Streams,
+    block: &mut [u8; 65536],
+    carry: &mut [u8; 8215],
+    out: &mut [u8; 1048576],
+) -> Turns
     ensures { AllDone carry.new out.new result }
 {
     let mut last = Turn {
@@ -175,7 +220,7 @@ fn all_turns(block: &mut [u8; 65536], carry: &mut [u8; 8215], out: &mut [u8; 104
     let mut blocks: u64 = 0;
     while blocks < u64::MAX {
         let used = last.used;
-        last = next_turn(block, carry, used, out);
+        last = next_turn(streams, block, carry, used, out);
         let how = last.how;
         if !is_more(how) {
             return Turns { last, blocks };
@@ -185,26 +230,14 @@ fn all_turns(block: &mut [u8; 65536], carry: &mut [u8; 8215], out: &mut [u8; 104
     Turns { last, blocks }
 }
 
-// Says on standard error that answers are missing, and why.
-fn report(how: How) {
-    match how {
-        How::More => {}
-        How::Ended => {}
-        How::ReadFailed => os::fail(
-            b"straightener: answers are missing, standard input could not be read",
-        ),
-        How::WriteFailed => os::fail(
-            b"straightener: answers are missing, standard output could not be written",
-        ),
-    }
-}
-
-fn main() {
-    let mut block = io::large_buffer();
+fn main(rt: HostRuntime) {
+    let mut streams = Streams {
+        input: rt.stdin(),
+        output: rt.stdout(),
+        complaints: rt.stderr(),
+    };
+    let mut block = block_room();
     let mut carry = stream::line_room();
     let mut out = answer_room();
-    let turns = all_turns(&mut block, &mut carry, &mut out);
-    let last = turns.last;
-    let how = last.how;
-    report(how);
+    let _turns = all_turns(&mut streams, &mut block, &mut carry, &mut out);
 }

@@ -15,7 +15,7 @@ use std::thread;
 
 /// The line program, with nothing said yet of its input and its output.
 fn program() -> Command {
-    Command::new(built("bin/straightener", "rt check straightener"))
+    Command::new(built("bin/straightener", "make program"))
 }
 
 /// The line program with pipes for its input, its output and its complaints.
@@ -218,7 +218,7 @@ fn a_full_device_is_told() {
 fn closed_descriptors_are_told() {
     let shell = |redirected: &str| {
         let script = format!("exec \"$0\" {redirected}");
-        let path = built("bin/straightener", "rt check straightener");
+        let path = built("bin/straightener", "make program");
         Command::new("sh").arg("-c").arg(script).arg(path).output().expect("a shell")
     };
     assert!(complaint(&shell("<&-")).contains("standard input could not be read"));

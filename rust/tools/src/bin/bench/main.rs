@@ -7,7 +7,7 @@
 //! copy, and the line program beside `cat`. Each time is the median over the rounds, to three digits, and
 //! each ratio that of the two medians as they are printed, to two digits.
 //!
-//! `cargo run --release --bin bench [ROUNDS]`, after `rt check straightener` and `make`.
+//! `cargo run --release --bin bench [ROUNDS]`, after `make`.
 
 mod blocks;
 mod quarters;
@@ -328,7 +328,7 @@ fn pictures(rounds: usize) {
 fn lines(rounds: usize) -> Result<(), Box<dyn Error>> {
     let program = PathBuf::from(env!("CARGO_MANIFEST_DIR")).join("../../target/bin/straightener");
     if !program.is_file() {
-        return Err("the line program is not there; make it by: rt check straightener".into());
+        return Err("the line program is not there; make it by: make program".into());
     }
     println!(
         "\nThe line program, kernels by turns: lines a second beside `cat`, and how many times its time.\n"
