@@ -17,7 +17,8 @@ const PRINTED: &str = "lines: 14 as the document has them\n\
                        quarter moves: 741 852 963; 3 by 2 becomes 2 by 3, 4 1 5 2 6 3\n\
                        on its side: turned, then step 146\n\
                        lower row: wrapped 30 90 10 20, on background -1 -1 10 20\n\
-                       refusals: 1 2 3 4 5 6 7 8 9 12 14 15 16 17\n\
+                       refusals: 1 2 3 4 5 6 7 8 9 12 14 15 17\n\
+                       a move above 7: 16\n\
                        settings: kernel 2, column 13, row 14, shears 11 and 12, border 1 of -15\n\
                        steps: S(1) = 2, S(1000) = 1887, S(1697) = 2897\n\
                        levelling: -20, -1697\n\

@@ -94,7 +94,7 @@ fn a_picture_on_its_side_is_turned_and_straightened() {
         (1, "29 11 32 52", "turn 3, then step 150\n"),
     ] {
         let photographed = pgm(&format!("turn {mounted}"), &screen).expect("a picture");
-        let said = pgm(&format!("level {points}"), b"").expect("what is to be done");
+        let said = pgm(&format!("level any {points}"), b"").expect("what is to be done");
         assert_eq!(String::from_utf8_lossy(&said), told);
         let turn = told.strip_prefix("turn ").map_or("0", |rest| &rest[..1]);
         let turned = pgm(&format!("turn {turn}"), &photographed).expect("a picture");
@@ -141,8 +141,9 @@ fn complaints_say_what_is_wrong() {
     assert!(complaint("straighten keys 80 background 256", b"").contains("256 is not a grey from 0 to 255"));
     assert!(complaint("straighten keys 80 background -1", b"").contains("-1 is not a grey from 0 to 255"));
     assert!(complaint("picture", b"0900000000\n").contains("number 9"));
-    assert!(complaint("level 5 50 5 50", b"").contains("two points in one place"));
-    assert!(complaint("level 0 0 1024 0", b"").contains("from 0 to 1,023"));
+    assert!(complaint("level 0 0 5 50", b"").contains("45 degrees"));
+    assert!(complaint("level any 5 50 5 50", b"").contains("two points in one place"));
+    assert!(complaint("level any 0 0 1024 0", b"").contains("from 0 to 1,023"));
     for number in ["8", "-1", "clockwise"] {
         let words = format!("turn {number}");
         assert!(complaint(&words, &example("screen.pgm")).contains("the quarter move must be 0 to 3"));

@@ -598,8 +598,9 @@ static void refusals(void)
     expect(straightener_answer_line((const uint8_t *)"junk", 4, answer, 11).written == 11);
     n[9] = (unsigned)(answer[1] - '0');
     expect(all(r, 0, 6, UNTOUCHED) && all(work, 0, 36, UNTOUCHED));
-    printf("refusals: %u %u %u %u %u %u %u %u %u %u %u %u %u %u\n", n[1], n[2], n[3], n[4], n[5], n[6], n[7], n[8], n[9],
-           n[12], n[14], n[15], n[16], n[17]);
+    printf("refusals: %u %u %u %u %u %u %u %u %u %u %u %u %u\n", n[1], n[2], n[3], n[4], n[5], n[6], n[7], n[8], n[9], n[12],
+           n[14], n[15], n[17]);
+    printf("a move above 7: %u\n", n[16]);
 }
 
 /* Whether a setting has these five parts, and the border 8 with background INT32_MIN. */

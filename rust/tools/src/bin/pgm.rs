@@ -5,7 +5,7 @@
 use std::env;
 use std::io::{self, Read, Write};
 use std::process::ExitCode;
-use straightener::{level_any, Border, Kernel, Quarter, Refusal};
+use straightener::{level, level_any, Border, Kernel, Quarter, Refusal};
 use tools::pgm::Picture;
 use tools::{hexline, png, screen, straighten, turn, Outcome};
 
@@ -14,8 +14,9 @@ const USAGE: &str = "\
 pgm screen STEP                a test picture: an analyser screen of 64 by 64, tilted so that STEP levels it
 pgm crop COLUMN ROW WIDTH HEIGHT
                                cuts a part out of a PGM picture, from a column and a row on
-pgm level X1 Y1 X2 Y2          the step that levels a graticule line through two points, columns and rows; for a line
-                               steeper than 45 degrees, or one that runs to the left, the turn to make first, too
+pgm level X1 Y1 X2 Y2          the step that levels a graticule line through two points, columns and rows
+pgm level any X1 Y1 X2 Y2      the same for a line in any direction: for one steeper than 45 degrees, or one that runs to
+                               the left, the turn to make first, too
 pgm turn QUARTER               turns a PGM picture: 0 to 3 are so many clockwise quarter turns, 4 to 7 a left-right
                                mirror and then 0 to 3 turns
 pgm straighten KERNEL STEP     straightens a PGM picture of up to 1,024 by 1,024 about its middle, with wrapped edges
@@ -58,6 +59,9 @@ fn run(words: &[String]) -> Outcome<Vec<u8>> {
             Ok(pgm_input()?.part(column, row, width, height)?.to_pgm())
         }
         ["level", x1, y1, x2, y2] => {
+            Ok(format!("{}\n", level(whole(x1)?, whole(y1)?, whole(x2)?, whole(y2)?)?).into_bytes())
+        }
+        ["level", "any", x1, y1, x2, y2] => {
             let answer = level_any(whole(x1)?, whole(y1)?, whole(x2)?, whole(y2)?)?;
             Ok(levelling(answer).into_bytes())
         }
