@@ -1,12 +1,10 @@
 -- Lines with a period. The laws are about any function with that period, so that no index is reduced in them: the place before
 -- k + 1 is k, and all places are reached from one side. Assumes nothing.
-use mathlib.Core.Path.{◌≡◌, refl, sym, ap, ◌∙◌, subst}
-use mathlib.Core.List.{List}
-use Prim.Native.Nat.{ℕ, zero, suc, ◌+◌, ◌*◌, ◌%◌, ◌≤◌, ◌<◌}
+use mathlib.Core.Path.{◌≡◌, sym, ap, ◌∙◌, subst}
+use Prim.Native.Nat.{ℕ, zero, suc, ◌+◌, ◌*◌, ◌%◌, ◌<◌}
 use native.Mathlib.Nat.{mod-lt, mod-eq_of_lt, add-mod_right, mod-add-div}
 use native.Mathlib.Omega.{arith}
 use lib.IntN.{ℤ, pos}
-use lib.ListN.{length}
 use Rattle.lists.specs.Tab.{tab}
 use Rattle.lists.specs.Line.{Line, wrap, line, Periodic}
 use Rattle.lists.proofs.Tab.{tab_at}

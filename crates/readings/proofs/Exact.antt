@@ -1,5 +1,5 @@
 -- Floats: a sample, or the difference of two, converts to a 32-bit float and is multiplied by 1/128 with nothing rounded. Assumes nothing.
-use Prim.Native.Nat.{ℕ, suc, ◌*◌, ◌≤◌, ◌<◌, ◌^◌}
+use Prim.Native.Nat.{ℕ, suc, ◌*◌, ◌≤◌, ◌^◌}
 use mathlib.Core.Path.{◌≡◌, refl, sym, ap, ◌∙◌}
 use mathlib.Core.Bool.{Bool, true, false, not}
 use native.Mathlib.Nat.{mul_assoc, mul-pos, lt_of_le_of_lt, mul-le-mul_right}
