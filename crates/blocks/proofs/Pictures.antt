@@ -129,13 +129,13 @@ module _ (W H D : ℕ) (set : Setting) (block : List ℤ) (hW : 0 < W) (hH : 0 <
   lent_at : (q : ℕ) → q < n → line lent q ≡ line block (at + q)
   lent_at q l = get_or-take (length block - at) (drop at block) q (pos 0) (omega (arith, ends, room)) ∙ get_or-drop at block q (pos 0)
 
-  place_in : (y x : ℕ) → at + (y * W + x) ≡ place_in s z y x
-  place_in y x = omega arith
+  same_place : (y x : ℕ) → at + (y * W + x) ≡ place_in s z y x
+  same_place y x = omega arith
 
   lent_slice : Places W H (λ y x. picture W (take n lent) y x ≡ slice s block z y x)
   unfolding picture
   lent_slice y x hy hx =
-      get_or-take n lent (y * W + x) (pos 0) (inside W H y x hy hx) ∙ lent_at (y * W + x) (inside W H y x hy hx) ∙ ap (line block) (place_in y x)
+      get_or-take n lent (y * W + x) (pos 0) (inside W H y x hy hx) ∙ lent_at (y * W + x) (inside W H y x hy hx) ∙ ap (line block) (same_place y x)
 
   -- row by row, slice z stands there straightened
   placed_at : (q : ℕ) → q < n → straight_slice s set block z (q / W) (q % W) ≡ straight W H D 0 set block (at + q)
@@ -144,7 +144,7 @@ module _ (W H D : ℕ) (set : Setting) (block : List ℤ) (hW : 0 < W) (hH : 0 <
       ∙ ap (λ (k : ℕ). straight W H D 0 set block (at + k)) (div-add-mod' q W)
     where
       known : Places W H (λ y x. straight_slice s set block z y x ≡ straight W H D 0 set block (at + (y * W + x)))
-      known y x hy hx = let k = known_at W H D hW hH 0 z y x hz hy hx in rw (place_in y x, k.0, k.1, k.2) refl
+      known y x hy hx = let k = known_at W H D hW hH 0 z y x hz hy hx in rw (same_place y x, k.0, k.1, k.2) refl
 
   -- so what the single picture's three passes leave of it is what stands there
   pub picture-placed : (rest : List ℤ) (q : ℕ) → q < n
