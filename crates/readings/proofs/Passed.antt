@@ -78,7 +78,7 @@ module _ (width height places : ℕ) (own : Verdict) (picture : List ℤ) where
       some h e = omega arith
 
 pub passed : (width height places : ℕ) (picture : List ℤ) → judged width height places picture ≡ Accepted → Passed width height places picture
-unfolding judged
+unfolding judged judged_by
 passed width height places picture e = (passed_by width height places Accepted picture e).0
 
 -- with a point in it

@@ -18,17 +18,18 @@ use Rattle.readings.specs.Sample.{float_of, Exactly, reading_of, ReadsExactly}
 abbrev pub range : ℕ
 range = 1048576
 
--- numbers 1 and 2 of a call that lends a picture, where the shortest lent buffer has `places` places; then the call's own number; then 6
+-- numbers 1, 2 and 6 of a call that lends a picture, where the shortest lent buffer has `places` places
+unfoldable pub judged : ℕ → ℕ → ℕ → List ℤ → Verdict
+judged width height places picture =
+    refused_if (bad_size width height) 1 (refused_if (short places (height * width)) 2 (of_found 6 (first_bad range width height picture)))
+
+-- the same with the call's own number after 2
 unfoldable pub judged_by : ℕ → ℕ → ℕ → Verdict → List ℤ → Verdict
 judged_by width height places own picture =
     refused_if (bad_size width height) 1
     (refused_if (short places (height * width)) 2
     (and_then own
     (of_found 6 (first_bad range width height picture))))
-
--- numbers 1, 2 and 6 of one that has no number of its own there
-unfoldable pub judged : ℕ → ℕ → ℕ → List ℤ → Verdict
-judged width height places picture = judged_by width height places Accepted picture
 
 -- 7: a point outside the picture
 unfoldable pub outside : ℕ → ℕ → ℕ → ℕ → Bool
