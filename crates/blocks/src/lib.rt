@@ -27,7 +27,7 @@ const FARTHEST: i32 = 1_048_576;
 
 // What a call comes to: straightened, with the number of lines interpolated over all slices and the smallest and the largest sample of the result; or
 // refused under a number, with a depth, a row and a column that are 0 except under 6.
-#[derive(Drop)]
+#[derive(Clone, Copy)]
 pub enum Outcome {
     Straightened(u32, Extremes),
     Refused(u32, usize, usize, usize),

@@ -17,7 +17,7 @@ use refusals::Verdict;
 // One term of the weighted sum: a place of the line, its weight, the sample that stands there, in units of 1/128 grey, or the coefficient, in sixteenths
 // of such a unit, and their product. C and Rust are handed it as it is, so it has C's layout.
 #[repr(C)]
-#[derive(Drop)]
+#[derive(Clone, Copy)]
 pub struct Term {
     pub place: usize,
     pub weight: i64,
@@ -26,7 +26,7 @@ pub struct Term {
 }
 
 // The four terms, from place k+q-1 on, their sum, what it is divided by, and the quotient to the nearest, halves upward, which is the sample.
-#[derive(Drop)]
+#[derive(Clone, Copy)]
 pub struct Parts {
     pub terms: [Term; 4],
     pub sum: i64,
@@ -35,7 +35,7 @@ pub struct Parts {
 }
 
 // What an explanation answers. Refused, every figure is 0.
-#[derive(Drop)]
+#[derive(Clone, Copy)]
 pub struct Explanation {
     pub verdict: Verdict,
     pub parts: Parts,

@@ -24,7 +24,7 @@ use tickets::{Asked, Ticket};
 // What most calls answer: 0 or the refusal number, the row and the column under 6, the number of lines interpolated, and the smallest and the
 // largest sample of a moved line or a straightened picture.
 #[repr(C)]
-#[derive(Drop)]
+#[derive(Clone, Copy)]
 pub struct Answer {
     pub number: u32,
     pub row: usize,
@@ -37,7 +37,7 @@ pub struct Answer {
 // What the call on a block answers: 0 or the refusal number, the depth, the row and the column under 6, the number of lines interpolated over all slices,
 // and the smallest and the largest sample of the result.
 #[repr(C)]
-#[derive(Drop)]
+#[derive(Clone, Copy)]
 pub struct BlockAnswer {
     pub number: u32,
     pub depth: usize,
@@ -50,7 +50,7 @@ pub struct BlockAnswer {
 
 // A setting: `border` is 0 wrapped, and any other number background of the sample value `background`.
 #[repr(C)]
-#[derive(Drop)]
+#[derive(Clone, Copy)]
 pub struct FlatSetting {
     pub kernel: u32,
     pub cx: usize,
@@ -63,7 +63,7 @@ pub struct FlatSetting {
 
 // A changed setting under 0, or the setting as it was under the refusal number.
 #[repr(C)]
-#[derive(Drop)]
+#[derive(Clone, Copy)]
 pub struct FlatChange {
     pub number: u32,
     pub setting: FlatSetting,
@@ -71,7 +71,7 @@ pub struct FlatChange {
 
 // A ticket: the size and the setting that were asked, and the number of lines that straightening will interpolate.
 #[repr(C)]
-#[derive(Drop)]
+#[derive(Clone, Copy)]
 pub struct FlatTicket {
     pub width: usize,
     pub height: usize,
@@ -81,7 +81,7 @@ pub struct FlatTicket {
 
 // What asking answers: 0 or the refusal number, the row and the column under 6, and a ticket, of size 0 by 0 and count 0 where it was refused.
 #[repr(C)]
-#[derive(Drop)]
+#[derive(Clone, Copy)]
 pub struct FlatAsked {
     pub number: u32,
     pub row: usize,
@@ -92,7 +92,7 @@ pub struct FlatAsked {
 // What a forecast answers: 0 or the refusal number, a row and a column of 0, and the work places, the lines interpolated and the bound on every sample
 // of a straightening, all 0 where it was refused.
 #[repr(C)]
-#[derive(Drop)]
+#[derive(Clone, Copy)]
 pub struct ForecastAnswer {
     pub number: u32,
     pub row: usize,
@@ -105,7 +105,7 @@ pub struct ForecastAnswer {
 // What an explanation answers: 0 or the refusal number, the row and the column under 6, the four terms, their sum, the divisor and the quotient, all 0
 // where it was refused.
 #[repr(C)]
-#[derive(Drop)]
+#[derive(Clone, Copy)]
 pub struct ExplanationAnswer {
     pub number: u32,
     pub row: usize,
@@ -118,7 +118,7 @@ pub struct ExplanationAnswer {
 
 // 0 and a step or a shear, or the refusal number and 0.
 #[repr(C)]
-#[derive(Drop)]
+#[derive(Clone, Copy)]
 pub struct Step {
     pub number: u32,
     pub value: i32,
@@ -126,7 +126,7 @@ pub struct Step {
 
 // What levelling with a picture answers: 0 or the refusal number, the row and the column under 6 and 15, and the step, 0 where it was refused.
 #[repr(C)]
-#[derive(Drop)]
+#[derive(Clone, Copy)]
 pub struct CheckedStep {
     pub number: u32,
     pub row: usize,
@@ -137,7 +137,7 @@ pub struct CheckedStep {
 // What moving a picture answers: 0 or the refusal number, the row and the column under 6, and the moved picture's width and height, 0 by 0 where it was
 // refused.
 #[repr(C)]
-#[derive(Drop)]
+#[derive(Clone, Copy)]
 pub struct QuarterAnswer {
     pub number: u32,
     pub row: usize,
@@ -148,7 +148,7 @@ pub struct QuarterAnswer {
 
 // 0 and a move of a picture, or the refusal number and 0.
 #[repr(C)]
-#[derive(Drop)]
+#[derive(Clone, Copy)]
 pub struct Quarter {
     pub number: u32,
     pub value: u32,
@@ -156,7 +156,7 @@ pub struct Quarter {
 
 // A reading: `kind` is 0 Level, 1 Under, 2 Over.
 #[repr(C)]
-#[derive(Drop)]
+#[derive(Clone, Copy)]
 pub struct ReadingAnswer {
     pub number: u32,
     pub row: usize,
@@ -167,7 +167,7 @@ pub struct ReadingAnswer {
 
 // The darkest and the lightest grey.
 #[repr(C)]
-#[derive(Drop)]
+#[derive(Clone, Copy)]
 pub struct SummaryAnswer {
     pub number: u32,
     pub row: usize,
@@ -178,7 +178,7 @@ pub struct SummaryAnswer {
 
 // 0 and the bytes written of an answer to a line, or 2 and none.
 #[repr(C)]
-#[derive(Drop)]
+#[derive(Clone, Copy)]
 pub struct LineAnswer {
     pub number: u32,
     pub written: usize,

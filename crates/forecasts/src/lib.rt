@@ -15,7 +15,7 @@ use settings::{Border, Setting};
 const RANGE: u32 = 32_767;
 
 // The work places, the lines interpolated, and a bound on the size of any sample of the result, which lies from -bound to bound.
-#[derive(Drop)]
+#[derive(Clone, Copy)]
 pub struct Figures {
     pub work: usize,
     pub count: u32,
@@ -23,7 +23,7 @@ pub struct Figures {
 }
 
 // What a forecast answers. Refused, every figure is 0.
-#[derive(Drop)]
+#[derive(Clone, Copy)]
 pub struct Foretold {
     pub verdict: Verdict,
     pub figures: Figures,

@@ -3,7 +3,7 @@
 #![tactic(auto)]
 
 // What the call for one line comes to: the bytes of its answer, or number 2 where out is too short for them.
-#[derive(Drop)]
+#[derive(Clone, Copy)]
 pub enum Written {
     Bytes(usize),
     Refused(u32),

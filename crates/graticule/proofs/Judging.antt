@@ -33,7 +33,7 @@ use Rattle.graticule.specs.declared.Points.{Points}
 use Rattle.graticule.specs.declared.Checked.{Checked}
 use Rattle.graticule.specs.Look.{row_at, first_below, Below, FirstBelow, Rightward, Lie}
 use Rattle.graticule.specs.Checked.{points_of, judged_points, judged_others, judged_line, checked_by, checked_of, lowest_of, named, LevelChecked}
-use Rattle.graticule.proofs.Look.{small, nothing_below, first_below}
+use Rattle.graticule.proofs.Look.{small, nothing_below, found_is_first}
 
 -- ---- answers, computed
 abbrev stepped : ℤ → Checked
@@ -239,7 +239,7 @@ module _ (width height : ℕ) (x1 y1 x2 y2 : ℤ) where
     first : number_of verdict ≡ 15 → FirstBelow width height points threshold picture (row_of verdict) (column_of verdict)
     first e =
         let (c, f) = fifteen e in
-        first_below width points threshold picture (in_picture c) height (row_of verdict) (column_of verdict) (fitting c).row (fitting c).column f
+        found_is_first width points threshold picture (in_picture c) height (row_of verdict) (column_of verdict) (fitting c).row (fitting c).column f
 
     -- ---- where no other number applies, a sample below the threshold is 15
     below : judged_others width height x1 y1 x2 y2 picture ≡ Accepted → (x : ℕ) → Below width points threshold picture x → number_of verdict ≡ 15

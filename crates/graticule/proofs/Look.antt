@@ -158,10 +158,10 @@ module _ (width : ℕ) (p : Points) (threshold : ℤ) (picture : List ℤ) (poin
       by j a l false e none = e
 
   -- a row and a column that are found hold the first that is
-  pub first_below : (height y x : ℕ) → max p.y1 p.y2 < height → p.x2 < width → first_below width p threshold picture ≡ At y x
+  pub found_is_first : (height y x : ℕ) → max p.y1 p.y2 < height → p.x2 < width → first_below width p threshold picture ≡ At y x
       → FirstBelow width height p threshold picture y x
   unfolding first_below
-  first_below height y x high wide e =
+  found_is_first height y x high wide e =
       let s = (first_is is_below rows columns p.x1 count y x).0 e in
       let f = s.first in
       let to : s.place ≤ p.x2 = omega (arith, f.inside, f.from) in

@@ -11,7 +11,7 @@ use levelling::Levelled;
 use refusals::{Found, Verdict};
 
 // Two points inside a picture, by column and row.
-#[derive(Drop)]
+#[derive(Clone, Copy)]
 struct Points {
     x1: usize,
     y1: usize,
@@ -20,7 +20,7 @@ struct Points {
 }
 
 // What the call answers: the step, 0 where it is refused.
-#[derive(Drop)]
+#[derive(Clone, Copy)]
 pub struct Checked {
     pub verdict: Verdict,
     pub step: i32,

@@ -1,5 +1,5 @@
 -- The kernels: four rows of four whole numbers each, and the weight that a row gives at f. Assumes nothing.
-use Rattle.std.specs.Prelude.{List, [], ◌∷◌, ℕ, zero, suc, ◌*◌, ℤ, pos, negsuc, ◌+ℤ◌, ◌*ℤ◌, get_or}
+use Rattle.std.specs.Prelude.{List, [], ◌∷◌, ℕ, zero, suc, ℤ, pos, negsuc, ◌+ℤ◌, ◌*ℤ◌, get_or}
 use Rattle.arith.specs.Sum.{Σ}
 
 pub data Kernel : Type 0 where

@@ -15,7 +15,7 @@ const KEYS: [[i64; 4]; 4] = [[0, -1, 2, -1], [2, 0, -5, 3], [0, 1, 4, -3], [0, 0
 const SPLINE: [[i64; 4]; 4] = [[1, -3, 3, -1], [4, 0, -6, 3], [1, 3, 3, -3], [0, 0, 0, 1]];
 
 // The weights of the source places k+q-1, k+q, k+q+1 and k+q+2.
-#[derive(Drop)]
+#[derive(Clone, Copy)]
 pub struct FourWeights {
     pub w0: i64,
     pub w1: i64,

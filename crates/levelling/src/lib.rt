@@ -9,14 +9,14 @@ ghost use Rattle.levelling.specs.Search.{Flat, Missed, Between};
 const LARGEST_SIDE: usize = 1024;
 
 // What `level` answers: the step, or a refusal number.
-#[derive(Drop)]
+#[derive(Clone, Copy)]
 pub enum Levelled {
     Step(i32),
     Refused(u32),
 }
 
 // Two places of the steps between which the sign of the miss changes. Place u is step u - 1,697.
-#[derive(Drop)]
+#[derive(Clone, Copy)]
 struct Bracket {
     lo: usize,
     hi: usize,

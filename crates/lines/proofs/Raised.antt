@@ -14,7 +14,6 @@ use Rattle.lists.specs.Ends.{smallest, largest}
 use Rattle.lists.proofs.Ends.{smallest_plus, largest_plus}
 use Rattle.settings.specs.declared.Border.{Border}
 use Rattle.kernels.specs.Kernel.{kernel_of}
-use Rattle.moves.specs.Border.{move_in}
 use Rattle.moves.specs.Range.{Raised, RaisedWithin}
 use Rattle.moves.proofs.Range.{linear_keys_add, fraction-raised, kernel_spline, kernel_not_spline}
 use Rattle.moves.proofs.Nearly.{move_in_nearly}

@@ -19,7 +19,7 @@ const RANGE: i32 = 294_912;
 
 // What moving a line answers: whether it was interpolated, and its smallest and largest output sample; or the number of the refusal with its
 // row and column.
-#[derive(Drop)]
+#[derive(Clone, Copy)]
 pub enum LineOutcome {
     Moved(bool, Extremes),
     Refused(u32, usize, usize),

@@ -8,7 +8,7 @@ ghost use Rattle.lists.specs.Grid.{line_of, put};
 ghost use Rattle.lists.specs.Ends.{extremes_of, joined_of};
 
 // The smallest and the largest of some samples.
-#[derive(Drop)]
+#[derive(Clone, Copy)]
 pub struct Extremes {
     pub smallest: i32,
     pub largest: i32,

@@ -8,14 +8,14 @@ ghost use Rattle.moves.specs.Border.{bad_background};
 use settings::Border;
 
 // Linear's weights of a place and of the one after it, in 4,096ths.
-#[derive(Drop)]
+#[derive(Clone, Copy)]
 pub struct TwoWeights {
     pub here: i32,
     pub next: i32,
 }
 
 // Places lo to hi - 1 of a row.
-#[derive(Drop)]
+#[derive(Clone, Copy)]
 pub struct Part {
     pub lo: usize,
     pub hi: usize,

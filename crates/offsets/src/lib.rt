@@ -16,7 +16,7 @@ ghost use Rattle.offsets.specs.Moves.{move_of, Slight};
 use settings::{Border, Setting};
 
 // How far the lines of a pass move: line y by a·(y - c), a and then c; or all alike, as the same line of many pictures does.
-#[derive(Drop)]
+#[derive(Clone, Copy)]
 pub enum Moves {
     Sheared(i32, usize),
     Alike(i64),

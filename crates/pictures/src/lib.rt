@@ -17,7 +17,7 @@ use settings::Setting;
 
 // What a call comes to: straightened, with the number of lines interpolated and the smallest and the largest sample of the result; or refused
 // under a number, with a row and a column that are 0 except under 6.
-#[derive(Drop)]
+#[derive(Clone, Copy)]
 pub enum Outcome {
     Straightened(u32, Extremes),
     Refused(u32, usize, usize),

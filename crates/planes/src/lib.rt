@@ -16,7 +16,7 @@ use settings::{Border, Setting};
 
 // How slices lie: how many there are, each of so many columns and rows, and how many places apart neighbours stand: columns `along`, rows `across`,
 // slices `step`.
-#[derive(Drop)]
+#[derive(Clone, Copy)]
 pub struct Slices {
     pub columns: usize,
     pub rows: usize,

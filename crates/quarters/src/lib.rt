@@ -29,7 +29,7 @@ const TABLE: [[u32; 8]; 8] = [
 const INVERSES: [u32; 8] = [0, 3, 2, 1, 4, 5, 6, 7];
 
 // What moving a picture answers: the moved picture's width and height, 0 by 0 where it is refused.
-#[derive(Drop)]
+#[derive(Clone, Copy)]
 pub struct Moved {
     pub verdict: Verdict,
     pub width: usize,
@@ -37,7 +37,7 @@ pub struct Moved {
 }
 
 // What a call for a move's number answers: the move, 0 where it is refused.
-#[derive(Drop)]
+#[derive(Clone, Copy)]
 pub struct Named {
     pub verdict: Verdict,
     pub quarter: u32,

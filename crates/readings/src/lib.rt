@@ -21,7 +21,7 @@ const BLACK: i32 = 2_048;
 const WHITE: i32 = 30_080;
 
 // A reading: below black Under, with the greys that are missing; above white Over, with those that are too many; otherwise Level, with its greys.
-#[derive(Drop)]
+#[derive(Clone, Copy)]
 pub enum Reading {
     Level(f32),
     Under(f32),
@@ -29,21 +29,21 @@ pub enum Reading {
 }
 
 // What a call for a reading answers.
-#[derive(Drop)]
+#[derive(Clone, Copy)]
 pub struct ReadingAnswer {
     pub verdict: Verdict,
     pub reading: Reading,
 }
 
 // The darkest and the lightest grey of a picture, held to no range.
-#[derive(Drop)]
+#[derive(Clone, Copy)]
 pub struct Summary {
     pub darkest: f32,
     pub lightest: f32,
 }
 
 // What a call for the summary answers.
-#[derive(Drop)]
+#[derive(Clone, Copy)]
 pub struct SummaryAnswer {
     pub verdict: Verdict,
     pub summary: Summary,

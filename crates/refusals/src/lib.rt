@@ -7,14 +7,14 @@ ghost use Rattle.refusals.specs.Tests.{side_beyond, bad_side, bad_size, beyond_o
 ghost use Rattle.refusals.specs.Judging.{of_found};
 
 // What the tests say of a call: accepted, or refused under a number, with a row and a column that are 0 where the number names no sample.
-#[derive(Drop)]
+#[derive(Clone, Copy)]
 pub enum Verdict {
     Accepted,
     Refused(u32, usize, usize),
 }
 
 // What is found of the samples that a number is about: nothing, or the row and the column of the first.
-#[derive(Drop)]
+#[derive(Clone, Copy)]
 pub enum Found {
     Nothing,
     At(usize, usize),

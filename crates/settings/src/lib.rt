@@ -6,7 +6,7 @@ ghost use Rattle.std.specs.Prelude.{◌≡◌};
 ghost use Rattle.settings.specs.Setting.{with_kernel, with_centre, with_shears, with_border};
 
 // What lies beyond a line's ends: the line again, or background of one sample value.
-#[derive(Drop)]
+#[derive(Clone, Copy)]
 pub enum Border {
     Wrapped,
     Background(i32),
@@ -14,7 +14,7 @@ pub enum Border {
 
 // The kernel is 0 linear, 1 Keys or 2 cubic spline. The centre is the column cx and the row cy. The shears a and b are document 01's A and B,
 // in 4,096ths.
-#[derive(Drop)]
+#[derive(Clone, Copy)]
 pub struct Setting {
     pub kernel: u32,
     pub cx: usize,

@@ -12,14 +12,14 @@ mod table;
 const RANGE: i32 = 1697;
 
 // What `sine` answers: S of the step, or a refusal number.
-#[derive(Drop)]
+#[derive(Clone, Copy)]
 pub enum StepSine {
     Value(i32),
     Refused(u32),
 }
 
 // What `with_step` answers: a refusal number, or 0, and the setting.
-#[derive(Drop)]
+#[derive(Clone, Copy)]
 pub struct Change {
     pub number: u32,
     pub setting: Setting,

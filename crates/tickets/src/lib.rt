@@ -13,7 +13,7 @@ use refusals::Verdict;
 use settings::Setting;
 
 // What a straightening will do: its size and setting, and how many lines it will interpolate.
-#[derive(Drop)]
+#[derive(Clone, Copy)]
 pub struct Ticket {
     pub width: usize,
     pub height: usize,
@@ -22,7 +22,7 @@ pub struct Ticket {
 }
 
 // What asking answers. Refused, the ticket is of size 0 by 0 and count 0, with the setting as asked.
-#[derive(Drop)]
+#[derive(Clone, Copy)]
 pub struct Asked {
     pub verdict: Verdict,
     pub ticket: Ticket,

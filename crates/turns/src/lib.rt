@@ -18,7 +18,7 @@ const BLOCK: usize = 64;
 const ACROSS: usize = 68;
 
 // A picture of `width` by `height` samples and how it is seen: its columns counted from the right where `right` holds, its rows from below where `below` does.
-#[derive(Drop)]
+#[derive(Clone, Copy)]
 pub struct View {
     pub width: usize,
     pub height: usize,
