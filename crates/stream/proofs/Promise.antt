@@ -7,7 +7,7 @@ use native.Mathlib.Omega.{arith}
 use borrow.Author.Tests.{le-leb}
 use borrow.Rule.Slice.PartMut.{put_mid}
 use lib.ListN.{length, take, drop, length-append, length-take, length-drop, drop_of_length-le, take-append-drop}
-use lib.Seq.{take_all, take-take, take_at, drop_at, drop-drop, take-add, length-take-le}
+use lib.Seq.{take_all, take-take, drop_at, drop-drop, take-add, length-take-le}
 use Rattle.format.proofs.Judged.{answer-short}
 use Rattle.format.specs.Answer.{answer_of}
 use Rattle.format.specs.Room.{Fitted, fitted, fitted_length}

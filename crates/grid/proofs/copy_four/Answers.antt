@@ -5,8 +5,6 @@ use native.Mathlib.Nat.{mul-le-mul_right}
 use native.Mathlib.Omega.{arith}
 use borrow.Author.Rules.{rules}
 use lib.ListN.{length, get_or, length-set}
-use mir.Syntax.{w32}
-use Rattle.arith.proofs.Machine.{read_back}
 use Rattle.lists.proofs.Grid.{put_none, put_more}
 use Rattle.grid.proofs.copy_four.Goals as goal
 use Rattle.grid.proofs.copy_four.Goals.{In-loop-i}
@@ -52,7 +50,7 @@ bounds-to-q c = omega (arith, target c.before)
 pub loop-i-preserved : goal.loop-i-preserved
 loop-i-preserved c =
     let a = c.args in
-    (omega arith, simp length-set (omega arith), put_more a.q a.stride _ c.loop-i.i a.to.now c.loop-i.to _ _ c.loop-i.invariant.2 refl (read_back w32 _ c.to-1.given))
+    (omega arith, simp length-set (omega arith), put_more a.q a.stride _ c.loop-i.i a.to.now c.loop-i.to _ _ c.loop-i.invariant.2 refl (search rules))
 
 pub returns : goal.returns
 returns c =
