@@ -75,7 +75,7 @@ fn finish(
 }
 
 // How much of the input was taken, how many bytes are held, and how many were written.
-#[derive(Drop)]
+#[derive(Clone, Copy)]
 struct Advance {
     taken: usize,
     used: usize,
@@ -114,7 +114,7 @@ fn step(
 }
 
 // How many bytes are held of an unfinished line, and how many were written.
-#[derive(Drop)]
+#[derive(Clone, Copy)]
 pub struct Progress {
     pub used: usize,
     pub wrote: usize,
