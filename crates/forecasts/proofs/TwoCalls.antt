@@ -21,7 +21,6 @@ use Rattle.kernels.specs.Kernel.{Kernel, Linear, Keys, Spline}
 use Rattle.moves.specs.Border.{grey}
 use Rattle.moves.proofs.Range.{range_within, kernel_linear}
 use Rattle.moves.proofs.Reach.{reach}
-use Rattle.passes.specs.Count.{count}
 use Rattle.passes.proofs.Reach.{straighten_reach}
 use Rattle.acceptance.specs.Judge.{too_short, judged_on, Fit}
 use Rattle.acceptance.proofs.Accepted.{fit_size, fit_accepted}

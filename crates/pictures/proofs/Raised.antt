@@ -9,12 +9,10 @@ use native.Mathlib.Omega.{arith}
 use lib.IntN.{ℤ, ◌+ℤ◌}
 use lib.ListN.{length}
 use Rattle.lists.specs.Line.{line}
-use Rattle.lists.specs.Ends.{smallest, largest}
 use Rattle.lists.proofs.Ends.{smallest_plus, largest_plus}
 use Rattle.settings.specs.declared.Setting.{Setting}
 use Rattle.moves.specs.Range.{Raised, RaisedWithin}
 use Rattle.moves.proofs.Range.{kernel_spline, kernel_not_spline}
-use Rattle.passes.specs.Count.{count}
 use Rattle.passes.proofs.Range.{straighten-raised, count-raised}
 use Rattle.passes.proofs.Nearly.{straighten_nearly}
 use Rattle.acceptance.specs.Judge.{Fit}

@@ -17,14 +17,12 @@ words_pass-requires c = simp length-take (omega arith)
 
 pub returns-then-not-words_pass : goal.returns-then-not-words_pass
 returns-then-not-words_pass c =
-    let k = c in
-    let s = k.args.s.now in
+    let s = c.args.s.now in
     rw (sym c.words_pass.ensures ∙ c.if-not-words_pass.true) at (all_split (length s / 8 * 8) s)
 
 pub returns : goal.returns
 returns c =
-    let k = c in
-    let s = k.args.s.now in
+    let s = c.args.s.now in
     let n = length s / 8 * 8 in
     let e : all_digits (take n s) ≡ true = sym c.words_pass.ensures ∙ c.if-not-words_pass.false in
     let f : c.bytes_pass.result ≡ all_digits (drop n s) = c.bytes_pass.ensures ∙ ap all_digits (take_all (length s - n) (drop n s) (simp length-drop (omega arith))) in

@@ -9,13 +9,11 @@ loop-i-init c = (omega arith, refl)
 
 pub returns-then-not-is_digit : goal.returns-then-not-is_digit
 returns-then-not-is_digit c =
-    let l = c in
-    all_left l.args.s.now l.loop-i.i (omega arith) l.loop-i.invariant.1 (sym c.is_digit.ensures ∙ c.if-not-is_digit.true)
+    all_left c.args.s.now c.loop-i.i (omega arith) c.loop-i.invariant.1 (sym c.is_digit.ensures ∙ c.if-not-is_digit.true)
 
 pub loop-i-preserved : goal.loop-i-preserved
 loop-i-preserved c =
-    let l = c in
-    (omega arith, all_on l.args.s.now l.loop-i.i (omega arith) l.loop-i.invariant.1 (sym c.is_digit.ensures ∙ c.if-not-is_digit.false))
+    (omega arith, all_on c.args.s.now c.loop-i.i (omega arith) c.loop-i.invariant.1 (sym c.is_digit.ensures ∙ c.if-not-is_digit.false))
 
 pub returns : goal.returns
 returns c = all-through c.args.s.now c.loop-i.i (omega arith) c.loop-i.invariant.1

@@ -13,12 +13,11 @@ loop-i-init c = (omega arith, search rules, filled_none spelt _ _)
 
 pub loop-i-preserved : goal.loop-i-preserved
 loop-i-preserved c =
-    let l = c in
-    let a = l.args.out.now in
-    let e : c.digit_of.result ≡ spelt (get_or a l.loop-i.i 0) = c.digit_of.ensures ∙ unfold spelt in rw (l.loop-i.invariant.2, filled_next spelt l.loop-i.i a a 0 (omega arith) (omega arith)) refl in (
+    let a = c.args.out.now in
+    let e : c.digit_of.result ≡ spelt (get_or a c.loop-i.i 0) = c.digit_of.ensures ∙ unfold spelt in rw (c.loop-i.invariant.2, filled_next spelt c.loop-i.i a a 0 (omega arith) (omega arith)) refl in (
       omega arith,
       simp length-set (omega arith),
-      rw (l.loop-i.invariant.2, e) (filled_more spelt l.loop-i.i a a 0 (omega arith) (omega arith)),
+      rw (c.loop-i.invariant.2, e) (filled_more spelt c.loop-i.i a a 0 (omega arith) (omega arith)),
     )
 
 pub returns : goal.returns

@@ -10,12 +10,11 @@ loop-i-init c = (omega arith, omega arith, all_none _)
 
 pub loop-i-preserved : goal.loop-i-preserved
 unfolding passes
-loop-i-preserved c =
-    let l = c in (
-      omega arith,
-      omega arith,
-      all_more l.args.s.now l.loop-i.i l.loop-i.mark c.faults-mark.result l.loop-i.invariant.2 (c.faults-mark.ensures ∙ ap all_digits c.word_at.ensures),
-    )
+loop-i-preserved c = (
+  omega arith,
+  omega arith,
+  all_more c.args.s.now c.loop-i.i c.loop-i.mark c.faults-mark.result c.loop-i.invariant.2 (c.faults-mark.ensures ∙ ap all_digits c.word_at.ensures),
+)
 
 pub returns : goal.returns
 returns c = all_end c.args.s.now c.loop-i.i c.loop-i.mark (omega arith) c.loop-i.invariant.2

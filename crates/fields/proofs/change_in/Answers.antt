@@ -12,7 +12,7 @@ pub slice_bounds-hex_value-end : goal.slice_bounds-hex_value-end
 slice_bounds-hex_value-end c = sym (length-take-le 2 c.args.line.now (omega arith))
 
 pub hex_value-kernel-requires : goal.hex_value-kernel-requires
-hex_value-kernel-requires c = let s = c in (rw (length-take-le 2 s.args.line.now (omega arith)) (omega arith), all_part 2 0 s.args.line.now s.requires.1)
+hex_value-kernel-requires c = (rw (length-take-le 2 c.args.line.now (omega arith)) (omega arith), all_part 2 0 c.args.line.now c.requires.1)
 
 pub returns : goal.returns
 unfolding change_in

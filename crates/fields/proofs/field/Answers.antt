@@ -9,7 +9,7 @@ use Rattle.format.specs.Line.{field_at}
 use Rattle.fields.proofs.field.Goals as goal
 
 pub hex_value-requires : goal.hex_value-requires
-hex_value-requires c = let s = c in (simp (length-take, length-drop) (omega arith), all_part (s.args.at + 4 - s.args.at) s.args.at s.args.line.now s.requires.2)
+hex_value-requires c = (simp (length-take, length-drop) (omega arith), all_part (c.args.at + 4 - c.args.at) c.args.at c.args.line.now c.requires.2)
 
 pub returns : goal.returns
 returns c = (unfold field_at in c.hex_value.ensures.0 ∙ rw (add-sub_cancel_left c.args.at 4) refl, c.hex_value.ensures.1)

@@ -30,11 +30,9 @@ returns-then-change-gt0 c = rw (no1 c.before.before.before.before, no2 c.before.
 pub returns-then-setting-gt2 : goal.returns-then-setting-gt2
 unfolding lowest bad_kernel
 returns-then-setting-gt2 c =
-    let b = c in
-    rw (no1 b.before.before.before.before.before.before, no2 b.before.before.before.before, le-ltb _ _ b.if-change-gt0.false, lt-ltb _ _ c.if-setting-gt2.true) refl
+    rw (no1 c.before.before.before.before.before.before, no2 c.before.before.before.before, le-ltb _ _ c.if-change-gt0.false, lt-ltb _ _ c.if-setting-gt2.true) refl
 
 pub returns : goal.returns
 unfolding lowest bad_kernel
 returns c =
-    let b = c in
-    rw (no1 b.before.before.before.before.before.before, no2 b.before.before.before.before, le-ltb _ _ b.if-change-gt0.false, le-ltb _ _ c.if-setting-gt2.false) refl
+    rw (no1 c.before.before.before.before.before.before, no2 c.before.before.before.before, le-ltb _ _ c.if-change-gt0.false, le-ltb _ _ c.if-setting-gt2.false) refl

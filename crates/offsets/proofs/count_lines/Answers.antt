@@ -12,15 +12,13 @@ pub overflow_add-count : goal.overflow_add-count
 overflow_add-count c = omega (arith, c.interpolates-count.ensures)
 
 pub loop-y-preserved : goal.loop-y-preserved
-loop-y-preserved c =
-    let l = c in (
-      omega arith,
-      omega (arith, c.interpolates-count.ensures),
-      unfold interpolated in rw (add-one, l.loop-y.invariant.2, c.interpolates-count.ensures) refl,
-    )
+loop-y-preserved c = (
+  omega arith,
+  omega (arith, c.interpolates-count.ensures),
+  unfold interpolated in rw (add-one, c.loop-y.invariant.2, c.interpolates-count.ensures) refl,
+)
 
 pub returns : goal.returns
 returns c =
-    let s = c in
-    let e : c.loop-y.y ≡ s.args.lines = omega arith in
+    let e : c.loop-y.y ≡ c.args.lines = omega arith in
     (c.loop-y.invariant.2 ∙ rw e refl, omega arith)

@@ -8,8 +8,7 @@ use Rattle.planes.proofs.moves_at.Goals as goal
 
 pub returns-then-alike : goal.returns-then-alike
 returns-then-alike c =
-    let t = c in
-    rw (t.if-alike.true, read_back w64 _ c.sheared_by.type_inv) (ap Alike (rw (to_z-of_z t.ranges.a) at c.sheared_by.ensures.0), c.sheared_by.ensures.1)
+    rw (c.if-alike.true, read_back w64 _ c.sheared_by.type_inv) (ap Alike (rw (to_z-of_z c.ranges.a) at c.sheared_by.ensures.0), c.sheared_by.ensures.1)
 
 pub returns : goal.returns
 returns c = rw (c.if-alike.false, to_z-of_z c.ranges.a) (refl, (c.requires.0, c.requires.1))

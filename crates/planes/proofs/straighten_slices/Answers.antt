@@ -54,7 +54,10 @@ twice c =
 pub sweep-requires : goal.sweep-requires
 sweep-requires c =
     let s = c.before.before.before.before in
-    rw (a-is s) record { sweepable = rows_sweepable s.requires.workable; slices_within = first_range s.args.s s.args.list.now s.requires.slices_within }
+    rw (a-is s) record {
+      sweepable = rows_sweepable s.requires.workable;
+      slices_within = first_range s.args.s s.args.list.now s.requires.slices_within;
+    }
 
 pub sweep-requires-2 : goal.sweep-requires-2
 sweep-requires-2 c =
@@ -63,7 +66,10 @@ sweep-requires-2 c =
     let a = s.args in
     let f = s.requires.workable in
     rw (c.transposed.ensures, b-is s, p.sweep.auto.list, p.sweep.auto.work)
-    record { sweepable = columns_sweepable f; slices_within = second_range a.setting.border (kernel_of a.setting.kernel) (rows s) (columns s) a.s a.list.now p.sweep.new.list f.columns.0 f.rows.0 (once p) f.setting.background s.requires.slices_within }
+    record {
+      sweepable = columns_sweepable f;
+      slices_within = second_range a.setting.border (kernel_of a.setting.kernel) (rows s) (columns s) a.s a.list.now p.sweep.new.list f.columns.0 f.rows.0 (once p) f.setting.background s.requires.slices_within;
+    }
 
 pub sweep-requires-3 : goal.sweep-requires-3
 sweep-requires-3 c =
@@ -73,7 +79,10 @@ sweep-requires-3 c =
     let a = s.args in
     let f = s.requires.workable in
     rw (a-is s, q.sweep-2.auto.list, p.sweep.auto.list, q.sweep-2.auto.work, p.sweep.auto.work)
-    record { sweepable = rows_sweepable f; slices_within = third_range a.setting.border (kernel_of a.setting.kernel) (rows s) (columns s) a.s a.list.now p.sweep.new.list f.columns.0 f.rows.0 (once p) q.sweep-2.new.list (twice q) f.setting.background s.requires.slices_within }
+    record {
+      sweepable = rows_sweepable f;
+      slices_within = third_range a.setting.border (kernel_of a.setting.kernel) (rows s) (columns s) a.s a.list.now p.sweep.new.list f.columns.0 f.rows.0 (once p) q.sweep-2.new.list (twice q) f.setting.background s.requires.slices_within;
+    }
 
 pub returns : goal.returns
 returns c =

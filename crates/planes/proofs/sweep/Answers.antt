@@ -5,23 +5,22 @@ use Rattle.planes.proofs.sweep.Goals as goal
 
 pub sweep_slices-requires : goal.sweep_slices-requires
 sweep_slices-requires c =
-    let s = c in
-    rw (c.exchanged.ensures, to_z-of_z s.ranges.a)
-    record { sweepable = exchanged_sweepable s.requires.sweepable; slices_within = exchanged_within s.args.s 294912 s.args.list.now s.requires.slices_within }
+    rw (c.exchanged.ensures, to_z-of_z c.ranges.a)
+    record {
+      sweepable = exchanged_sweepable c.requires.sweepable;
+      slices_within = exchanged_within c.args.s 294912 c.args.list.now c.requires.slices_within;
+    }
 
 pub returns-then-s : goal.returns-then-s
 returns-then-s c =
-    let s = c in
     let e = c.exchanged.ensures in
-    exchanged_swept s.args.border _ s.args.a s.args.c s.args.s s.args.list.now _ s.requires.sweepable.columns.0
-    (rw (e, to_z-of_z s.ranges.a) at c.sweep_slices.ensures)
+    exchanged_swept c.args.border _ c.args.a c.args.c c.args.s c.args.list.now _ c.requires.sweepable.columns.0
+    (rw (e, to_z-of_z c.ranges.a) at c.sweep_slices.ensures)
 
 pub sweep_slices-requires-2 : goal.sweep_slices-requires-2
 sweep_slices-requires-2 c =
-    let s = c in
-    rw (to_z-of_z s.ranges.a) record { sweepable = s.requires.sweepable; slices_within = s.requires.slices_within }
+    rw (to_z-of_z c.ranges.a) record { sweepable = c.requires.sweepable; slices_within = c.requires.slices_within }
 
 pub returns : goal.returns
 returns c =
-    let s = c in
-    rw (to_z-of_z s.ranges.a) at c.sweep_slices-2.ensures
+    rw (to_z-of_z c.ranges.a) at c.sweep_slices-2.ensures

@@ -21,8 +21,7 @@ use Rattle.planes.proofs.sweep_slices.Goals.{At-loop-i}
 -- a slice to come begins inside the list
 starts : (l : At-loop-i) → l.loop-i.i < l.args.s.slices → l.loop-i.i * l.args.s.step ≤ length l.args.list.now
 starts l h =
-    let s = l in
-    begins s.args.s l.loop-i.i s.args.list.now s.requires.sweepable.lie s.requires.sweepable.columns.0 s.requires.sweepable.rows.0 h
+    begins l.args.s l.loop-i.i l.args.list.now l.requires.sweepable.lie l.requires.sweepable.columns.0 l.requires.sweepable.rows.0 h
 
 -- the slices lie as they did
 lies : (l : At-loop-i) → Apart l.args.s (length l.loop-i.list)
@@ -42,8 +41,7 @@ overflow_mul-at c = omega (arith, starts c.before.before.before (omega arith))
 
 pub moves_at-moves-requires : goal.moves_at-moves-requires
 moves_at-moves-requires c =
-    let s = c in
-    rw (to_z-of_z s.ranges.a) (s.requires.sweepable.slight, s.requires.sweepable.central, omega (arith, s.requires.sweepable.slices))
+    rw (to_z-of_z c.ranges.a) (c.requires.sweepable.slight, c.requires.sweepable.central, omega (arith, c.requires.sweepable.slices))
 
 pub offset_bounds-list-at : goal.offset_bounds-list-at
 offset_bounds-list-at c = let l = c.before.before.before.before in omega (arith, starts l (omega arith), l.loop-i.invariant.1)
@@ -57,10 +55,9 @@ slice_bounds-pass-start c = let l = c.before.before.before.before in omega (arit
 pub pass-requires : goal.pass-requires
 pass-requires c =
     let l = c.before.before.before.before.before.before in
-    let s = l in
-    let f = s.requires.sweepable in
+    let f = l.requires.sweepable in
     let m = c.moves_at-moves.ensures in
-    let h : l.loop-i.i < s.args.s.slices = omega arith in record {
+    let h : l.loop-i.i < l.args.s.slices = omega arith in record {
       movable = record {
         some = f.columns.0;
         short = f.columns.1;
@@ -70,17 +67,16 @@ pass-requires c =
         plain = f.plain;
         roomy = omega (arith, f.roomy, l.loop-i.invariant.2);
       };
-      lines = slice-lines s.args.s _ (lent_apart s.args.s l.loop-i.i l.loop-i.list (lies l) f.columns.0 f.rows.0 h);
-      lines_within = λ (y k : ℕ) (hy : y < s.args.s.rows) (hk : k < s.args.s.columns).
-          rw (lent_place s.args.s l.loop-i.i l.loop-i.list (lies l) f.columns.0 f.rows.0 h y k hy hk, coming l h y k hy hk) (s.requires.slices_within l.loop-i.i y k h hy hk);
+      lines = slice-lines l.args.s _ (lent_apart l.args.s l.loop-i.i l.loop-i.list (lies l) f.columns.0 f.rows.0 h);
+      lines_within = λ (y k : ℕ) (hy : y < l.args.s.rows) (hk : k < l.args.s.columns).
+          rw (lent_place l.args.s l.loop-i.i l.loop-i.list (lies l) f.columns.0 f.rows.0 h y k hy hk, coming l h y k hy hk) (l.requires.slices_within l.loop-i.i y k h hy hk);
     }
 
 pub loop-i-preserved : goal.loop-i-preserved
 loop-i-preserved c =
     let l = c.before.before.before.before.before.before.before.before.before in
-    let s = l in
-    let a = s.args in
-    let f = s.requires.sweepable in
+    let a = l.args in
+    let f = l.requires.sweepable in
     let v = c.pass in
     let m = c.moves_at-moves.ensures in
     let h : l.loop-i.i < a.s.slices = c.loop-i-test.true in
@@ -99,7 +95,5 @@ loop-i-preserved c =
 
 pub returns : goal.returns
 returns c =
-    let l = c in
-    let s = l in
-    let e : l.loop-i.i ≡ s.args.s.slices = omega arith in
-    rw (to_z-of_z s.ranges.a, e) at l.loop-i.invariant.3
+    let e : c.loop-i.i ≡ c.args.s.slices = omega arith in
+    rw (to_z-of_z c.ranges.a, e) at c.loop-i.invariant.3

@@ -11,24 +11,23 @@ pub window_of-first-requires : goal.window_of-first-requires
 window_of-first-requires c = (c.requires.le_n.0, c.requires.le_n.1, c.requires.by_index 0 (omega arith))
 
 pub window_of-second-requires : goal.window_of-second-requires
-window_of-second-requires c = let s = c in (s.requires.le_n.0, s.requires.le_n.1, s.requires.by_index 1 (omega arith))
+window_of-second-requires c = (c.requires.le_n.0, c.requires.le_n.1, c.requires.by_index 1 (omega arith))
 
 pub window_of-third-requires : goal.window_of-third-requires
-window_of-third-requires c = let s = c in (s.requires.le_n.0, s.requires.le_n.1, s.requires.by_index 2 (omega arith))
+window_of-third-requires c = (c.requires.le_n.0, c.requires.le_n.1, c.requires.by_index 2 (omega arith))
 
 pub window_of-fourth-requires : goal.window_of-fourth-requires
-window_of-fourth-requires c = let s = c in (s.requires.le_n.0, s.requires.le_n.1, s.requires.by_index 3 (omega arith))
+window_of-fourth-requires c = (c.requires.le_n.0, c.requires.le_n.1, c.requires.by_index 3 (omega arith))
 
 pub returns : goal.returns
 returns c =
-    let p = c in
-    let a = p.args in
-    let w = p.window_of-first.ensures in
-    let x = p.window_of-second.ensures in
-    let y = p.window_of-third.ensures in
-    let z = p.window_of-fourth.ensures in
+    let a = c.args in
+    let w = c.window_of-first.ensures in
+    let x = c.window_of-second.ensures in
+    let y = c.window_of-third.ensures in
+    let z = c.window_of-fourth.ensures in
     rw (c.joined-3.ensures, c.joined.ensures, c.joined-2.ensures)
-    (each_four (λ (i : ℕ). Covers a.border a.n (get_or a.starts i 0) (joined_of (joined_of p.window_of-first.result p.window_of-second.result) (joined_of p.window_of-third.result p.window_of-fourth.result)))
+    (each_four (λ (i : ℕ). Covers a.border a.n (get_or a.starts i 0) (joined_of (joined_of c.window_of-first.result c.window_of-second.result) (joined_of c.window_of-third.result c.window_of-fourth.result)))
     (covers_first (covers_first w x) (covers_first y z))
     (covers_first (covers_second w x) (covers_first y z))
     (covers_second (covers_first w x) (covers_first y z))

@@ -25,13 +25,11 @@ places_of-m-requires c = c.requires.movable.short
 
 pub starts_at-starts-requires : goal.starts_at-starts-requires
 starts_at-starts-requires c =
-    let s = c in
-    (s.requires.movable.some, s.requires.movable.short, s.requires.movable.slight, s.requires.movable.few)
+    (c.requires.movable.some, c.requires.movable.short, c.requires.movable.slight, c.requires.movable.few)
 
 pub window_at-window-requires : goal.window_at-window-requires
 window_at-window-requires c =
-    let s = c in
-    record { le_n = (s.requires.movable.some, s.requires.movable.short); by_index = λ (i : ℕ) (l : i < 4). (c.starts_at-starts.ensures i l).1 }
+    record { le_n = (c.requires.movable.some, c.requires.movable.short); by_index = λ (i : ℕ) (l : i < 4). (c.starts_at-starts.ensures i l).1 }
 
 pub loaded_of-loaded-requires : goal.loaded_of-loaded-requires
 loaded_of-loaded-requires c = c.requires.movable.known
@@ -70,43 +68,46 @@ load_four-requires c =
     let p = c.before in
     let s = start p in
     rw (loaded_is p)
-    record { le_n = (s.requires.movable.some, s.requires.movable.short, s.requires.movable.roomy, loaded_holds (κ p) (covers p 0 (omega arith))); lines = lines_from s.args.y 4 (omega arith) s.requires.lines }
+    record {
+      le_n = (s.requires.movable.some, s.requires.movable.short, s.requires.movable.roomy, loaded_holds (κ p) (covers p 0 (omega arith)));
+      lines = lines_from s.args.y 4 (omega arith) s.requires.lines;
+    }
 
 pub treat_four-requires : goal.treat_four-requires
 treat_four-requires c =
-    let v = c in
-    let p = v.before.before.before.before in
+    let p = c.before.before.before.before in
     let s = start p in
     let a = s.args in
     let w = covers p 0 (omega arith) in
-    rw v.load_four.auto.work record {
+    rw c.load_four.auto.work record {
       movable = s.requires.movable;
       lo_lt_hi = (
         omega (arith, w.low, w.high, s.requires.movable.some),
         w.end,
-        loaded-rows (β p) a.y a.along a.across (n p) a.picture.now s.requires.movable.plain s.requires.by_index (loaded_of (κ p) (places (β p) (n p)) (window p)) v.load_four.new.work
-            (loaded_holds (κ p) w).2 (rw (loaded_is p) at v.load_four.ensures),
+        loaded-rows (β p) a.y a.along a.across (n p) a.picture.now s.requires.movable.plain s.requires.by_index (loaded_of (κ p) (places (β p) (n p)) (window p)) c.load_four.new.work
+            (loaded_holds (κ p) w).2 (rw (loaded_is p) at c.load_four.ensures),
       );
     }
 
 pub store_four-requires : goal.store_four-requires
 store_four-requires c =
-    let v = c in
-    let p = v.before.before.before.before.before.before.before in
+    let p = c.before.before.before.before.before.before.before in
     let s = start p in
-    rw p.places_of-m.ensures record { le_n = (s.requires.movable.some, places_some (β p) (n p), omega (arith, c.treat_four.auto.work, v.load_four.auto.work, s.requires.movable.roomy)); lines = lines_from s.args.y 4 (omega arith) s.requires.lines; by_index = λ (i : ℕ) (l : i < 4). (p.starts_at-starts.ensures i l).1 }
+    rw p.places_of-m.ensures record {
+      le_n = (s.requires.movable.some, places_some (β p) (n p), omega (arith, c.treat_four.auto.work, c.load_four.auto.work, s.requires.movable.roomy));
+      lines = lines_from s.args.y 4 (omega arith) s.requires.lines;
+      by_index = λ (i : ℕ) (l : i < 4). (p.starts_at-starts.ensures i l).1;
+    }
 
 pub returns : goal.returns
 returns c =
-    let t = c in
-    let v = t in
-    let p = v.before.before.before.before.before.before.before.before.before in
+    let p = c.before.before.before.before.before.before.before.before.before in
     let s = start p in
     let a = s.args in
-    let now = v.load_four.new.work in
-    let work = t.treat_four.new.work in
+    let now = c.load_four.new.work in
+    let work = c.treat_four.new.work in
     c.store_four.ensures
     ∙ ap (λ (m : ℕ). four_stored (a.y * a.across) a.along a.across a.n m work (starts p) a.picture.now) p.places_of-m.ensures
     ∙ laid-moved (β p) a.y a.along a.across (n p) a.picture.now s.requires.movable.plain s.requires.by_index (κ p) (move_of a.moves) (window p) now work (λ (i : ℕ). get_or (starts p) i 0)
-    (omega (arith, v.load_four.auto.work, s.requires.movable.roomy)) (starts_are p) (covers p) (rw (loaded_is p) at v.load_four.ensures)
-    (λ (i : ℕ) (l : i < 4). t.treat_four.ensures i l)
+    (omega (arith, c.load_four.auto.work, s.requires.movable.roomy)) (starts_are p) (covers p) (rw (loaded_is p) at c.load_four.ensures)
+    (λ (i : ℕ) (l : i < 4). c.treat_four.ensures i l)

@@ -26,7 +26,7 @@ pub overflow_mul-at : goal.overflow_mul-at
 overflow_mul-at c = omega (arith, c.requires.by_index 0 (omega (arith, c.requires.le_n.0)))
 
 pub window_of-window-requires : goal.window_of-window-requires
-window_of-window-requires c = let s = c in (s.requires.le_n.0, s.requires.le_n.1, c.start_at-start.ensures.1)
+window_of-window-requires c = (c.requires.le_n.0, c.requires.le_n.1, c.start_at-start.ensures.1)
 
 -- ---- line y, and the part of its row that it needs
 module _ (c : After-loaded_of-loaded) where
@@ -83,7 +83,11 @@ pub set_in-requires : goal.set_in-requires
 set_in-requires c =
     let p = c.before in
     let s = start p in
-    rw (loaded_is p) record { n_bound = (s.requires.le_n.1, s.requires.le_n.2); holds = loaded_holds (κ p) (covers p); by_index = s.requires.by_index }
+    rw (loaded_is p) record {
+      n_bound = (s.requires.le_n.1, s.requires.le_n.2);
+      holds = loaded_holds (κ p) (covers p);
+      by_index = s.requires.by_index;
+    }
 
 pub treat-requires : goal.treat-requires
 treat-requires c =
@@ -105,21 +109,19 @@ treat-requires c =
 
 pub store_line-requires : goal.store_line-requires
 store_line-requires c =
-    let t = c in
-    let r = t.before.before.before.before.before.before in
+    let r = c.before.before.before.before.before.before in
     let p = loaded r in
-    rw (t.treat.auto.row ∙ row_length r)
+    rw (c.treat.auto.row ∙ row_length r)
     record { by_index = (start p).requires.by_index; turn_in_bounds = (p.start_at-start.ensures.1, places_some (β p) (n p)) }
 
 pub returns : goal.returns
 returns c =
-    let t = c in
-    let f = t.fraction_of in
-    let r = t.before.before.before.before.before.before.before.before in
+    let f = c.fraction_of in
+    let r = c.before.before.before.before.before.before.before.before in
     let p = loaded r in
     let s = start p in
     let a = s.args in
     c.store_line.ensures
-    ∙ put-moved (β p) s.requires.le_n.6 (κ p) (move_of a.moves) a.y (at p) a.along (n p) p.start_at-start.result (window p) a.picture.now (row r) t.treat.new.row
+    ∙ put-moved (β p) s.requires.le_n.6 (κ p) (move_of a.moves) a.y (at p) a.along (n p) p.start_at-start.result (window p) a.picture.now (row r) c.treat.new.row
     p.start_at-start.ensures.0 s.requires.by_index_2 (row_length r) (covers p) (set r)
-    (rw (read_back w32 _ f.type_inv, f.ensures) at t.treat.ensures)
+    (rw (read_back w32 _ f.type_inv, f.ensures) at c.treat.ensures)

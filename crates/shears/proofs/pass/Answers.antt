@@ -29,9 +29,8 @@ moving s = moved_at s.args.border (kernel_of s.args.kernel) (move_of s.args.move
 ahead-size : (l : At-loop-y) (z k : ℕ) → l.loop-y.y ≤ z → z < l.args.lines → k < l.args.n
     → nat_abs (get_or l.loop-y.picture (z * l.args.across + k * l.args.along) (pos 0)) ≤ 294912
 ahead-size l z k h m i =
-    let s = l in
-    let a = s.args in
-    rw (l.loop-y.invariant.3, ahead a.n a.lines a.along a.across _ _ s.requires.lines l.loop-y.y a.picture.now z h m k i) (s.requires.lines_within z k m i)
+    let a = l.args in
+    rw (l.loop-y.invariant.3, ahead a.n a.lines a.along a.across _ _ l.requires.lines l.loop-y.y a.picture.now z h m k i) (l.requires.lines_within z k m i)
 
 -- a line's places, and that work has them
 room : (p : After-places_of-m) → 4 * p.places_of-m.result ≤ length p.args.work.now
@@ -45,24 +44,22 @@ loop-y-init c = (omega arith, search rules, search rules, passed_none _ _ _ _ _)
 
 pub move_four-requires : goal.move_four-requires
 move_four-requires c =
-    let l = c in
-    let p = l in
-    let s = p in
-    rw (l.loop-y.invariant.1, l.loop-y.invariant.2) record { movable = fewer (l.loop-y.y + 4) (omega arith) s.requires.movable; lines = lines_within (omega arith) (omega arith) s.requires.lines; by_index = λ (i k : ℕ) (m : i < 4) (h : k < s.args.n). ahead-size l.before.before.before.before (l.loop-y.y + i) k (omega arith) (omega arith) h }
+    rw (c.loop-y.invariant.1, c.loop-y.invariant.2) record {
+      movable = fewer (c.loop-y.y + 4) (omega arith) c.requires.movable;
+      lines = lines_within (omega arith) (omega arith) c.requires.lines;
+      by_index = λ (i k : ℕ) (m : i < 4) (h : k < c.args.n). ahead-size c.before.before.before.before (c.loop-y.y + i) k (omega arith) (omega arith) h;
+    }
 
 pub loop-y-preserved-then-y-lines : goal.loop-y-preserved-then-y-lines
 loop-y-preserved-then-y-lines c =
-    let l = c in
-    let p = l in
-    let s = p in
-    let a = s.args in
+    let a = c.args in
     let v = c.move_four in
-    let four : l.loop-y.y + 4 ≤ a.lines = c.if-y-lines.true in (
+    let four : c.loop-y.y + 4 ≤ a.lines = c.if-y-lines.true in (
       omega (arith, four),
-      v.auto.picture ∙ l.loop-y.invariant.1,
-      v.auto.work ∙ l.loop-y.invariant.2,
+      v.auto.picture ∙ c.loop-y.invariant.1,
+      v.auto.work ∙ c.loop-y.invariant.2,
       v.ensures
-          ∙ laid-passed a.n a.lines a.along a.across (moving s.before.before.before.before.before.before.before.before.before) a.picture.now s.requires.lines l.loop-y.y 4 l.loop-y.picture (omega (arith, four)) l.loop-y.invariant.3,
+          ∙ laid-passed a.n a.lines a.along a.across (moving c.before.before.before.before.before.before.before.before.before) a.picture.now c.requires.lines c.loop-y.y 4 c.loop-y.picture (omega (arith, four)) c.loop-y.invariant.3,
     )
 
 pub slice_bounds-move_line-end : goal.slice_bounds-move_line-end
@@ -73,31 +70,28 @@ slice_bounds-move_line-end-else-y-lines c = simp length-take (omega (arith, room
 
 pub move_line-requires : goal.move_line-requires
 move_line-requires c =
-    let l = c in
-    let p = l in
-    let s = p in
-    let a = s.args in
-    let n = p.places_of-m.result in
-    let m : length (take n l.loop-y.work) ≡ n = length-take-le n l.loop-y.work (omega (arith, room p.before.before.before.before.before, l.loop-y.invariant.2)) in
-    rw m record { le_n = (s.requires.movable.some, s.requires.movable.short, p.places_of-m.ensures, s.requires.movable.known, s.requires.movable.slight, omega (arith, s.requires.movable.few), s.requires.movable.plain); by_index = λ (k : ℕ) (h : k < a.n). rw l.loop-y.invariant.1 (s.requires.lines.inside l.loop-y.y k (omega arith) h); by_index_2 = λ (k : ℕ) (h : k < a.n). ahead-size l.before.before.before.before l.loop-y.y k (omega arith) (omega arith) h }
+    let a = c.args in
+    let n = c.places_of-m.result in
+    let m : length (take n c.loop-y.work) ≡ n = length-take-le n c.loop-y.work (omega (arith, room c.before.before.before.before.before, c.loop-y.invariant.2)) in
+    rw m record {
+      le_n = (c.requires.movable.some, c.requires.movable.short, c.places_of-m.ensures, c.requires.movable.known, c.requires.movable.slight, omega (arith, c.requires.movable.few), c.requires.movable.plain);
+      by_index = λ (k : ℕ) (h : k < a.n). rw c.loop-y.invariant.1 (c.requires.lines.inside c.loop-y.y k (omega arith) h);
+      by_index_2 = λ (k : ℕ) (h : k < a.n). ahead-size c.before.before.before.before c.loop-y.y k (omega arith) (omega arith) h;
+    }
 
 pub loop-y-preserved : goal.loop-y-preserved
 loop-y-preserved c =
-    let l = c in
-    let p = l in
-    let s = p in
-    let a = s.args in
+    let a = c.args in
     let v = c.move_line in
-    let n = p.places_of-m.result in
-    let more : l.loop-y.y < a.lines = c.loop-y-test.true in (
+    let n = c.places_of-m.result in
+    let more : c.loop-y.y < a.lines = c.loop-y-test.true in (
       omega (arith, more),
-      v.auto.picture ∙ l.loop-y.invariant.1,
-      length_front l.loop-y.work v.new.row n v.auto.row ∙ l.loop-y.invariant.2,
-      passed_more a.n a.along a.across (moving s.before.before.before.before.before.before.before.before.before) l.loop-y.y a.n a.picture.now l.loop-y.picture _ refl l.loop-y.invariant.3 v.ensures,
+      v.auto.picture ∙ c.loop-y.invariant.1,
+      length_front c.loop-y.work v.new.row n v.auto.row ∙ c.loop-y.invariant.2,
+      passed_more a.n a.along a.across (moving c.before.before.before.before.before.before.before.before.before) c.loop-y.y a.n a.picture.now c.loop-y.picture _ refl c.loop-y.invariant.3 v.ensures,
     )
 
 pub returns : goal.returns
 returns c =
-    let s = c in
-    let e : c.loop-y.y ≡ s.args.lines = omega arith in
+    let e : c.loop-y.y ≡ c.args.lines = omega arith in
     rw e at c.loop-y.invariant.3

@@ -8,8 +8,7 @@ use Rattle.shears.proofs.prepare_four.Goals as goal
 
 pub coefficients_four-requires : goal.coefficients_four-requires
 coefficients_four-requires c =
-    let s = c in
-    record { le_n = (s.requires.le_n.0, s.requires.le_n.1, s.requires.le_n.2); by_index = s.requires.four_within c.if-kernel-eq2.true }
+    record { le_n = (c.requires.le_n.0, c.requires.le_n.1, c.requires.le_n.2); by_index = c.requires.four_within c.if-kernel-eq2.true }
 
 pub returns-then-kernel-eq2 : goal.returns-then-kernel-eq2
 returns-then-kernel-eq2 c =

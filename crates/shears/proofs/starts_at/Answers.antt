@@ -11,8 +11,7 @@ use Rattle.shears.proofs.starts_at.Goals as goal
 
 pub returns : goal.returns
 returns c =
-    let s = c in
-    let a = s.args in
+    let a = c.args in
     let r = c.start_at-first.result ∷ c.start_at-second.result ∷ c.start_at-third.result ∷ c.start_at-fourth.result ∷ [] in
     each_four (λ (i : ℕ). (get_or r i 0 ≡ start_at a.border a.n (held a.border a.n (move_of a.moves (a.y + i)))) × (get_or r i 0 < places a.border a.n))
     (subst (λ (z : ℕ). (get_or r 0 0 ≡ start_at a.border a.n (held a.border a.n (move_of a.moves z))) × (get_or r 0 0 < places a.border a.n)) (sym (add-zero a.y)) c.start_at-first.ensures)

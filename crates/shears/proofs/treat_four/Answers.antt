@@ -13,40 +13,37 @@ use Rattle.shears.proofs.treat_four.Goals.{After-prepare_four}
 
 -- the rows prepared, by the places that a line takes
 prepared-are : (c : After-prepare_four)
-    → let s = c in
-    FourTreated (places s.args.border s.args.n) (λ (i : ℕ). prepared (kernel_of s.args.kernel)) s.args.work.now c.prepare_four.new.work
+    →
+    FourTreated (places c.args.border c.args.n) (λ (i : ℕ). prepared (kernel_of c.args.kernel)) c.args.work.now c.prepare_four.new.work
 prepared-are c =
-    let s = c in
-    subst (λ (n : ℕ). FourTreated n (λ (i : ℕ). prepared (kernel_of s.args.kernel)) s.args.work.now c.prepare_four.new.work) c.places_of.ensures c.prepare_four.ensures
+    subst (λ (n : ℕ). FourTreated n (λ (i : ℕ). prepared (kernel_of c.args.kernel)) c.args.work.now c.prepare_four.new.work) c.places_of.ensures c.prepare_four.ensures
 
 pub places_of-requires : goal.places_of-requires
 places_of-requires c = c.requires.movable.short
 
 pub prepare_four-requires : goal.prepare_four-requires
 prepare_four-requires c =
-    let s = c in
-    let a = s.args in
+    let a = c.args in
     rw c.places_of.ensures record {
       le_n = (
-        omega (arith, places_some a.border a.n, s.requires.movable.some),
-        omega (arith, places_few a.border a.n, s.requires.movable.short),
-        s.requires.movable.roomy,
-        s.requires.movable.known,
+        omega (arith, places_some a.border a.n, c.requires.movable.some),
+        omega (arith, places_few a.border a.n, c.requires.movable.short),
+        c.requires.movable.roomy,
+        c.requires.movable.known,
       );
-      four_within = λ (e : a.kernel ≡ 2). four_within (places a.border a.n) 294912 a.work.now (rw e at s.requires.lo_lt_hi.2);
+      four_within = λ (e : a.kernel ≡ 2). four_within (places a.border a.n) 294912 a.work.now (rw e at c.requires.lo_lt_hi.2);
     }
 
 pub weigh_four-requires : goal.weigh_four-requires
 weigh_four-requires c =
-    let p = c in
-    let s = p in
-    let a = s.args in
-    let v = p.prepare_four in
+    let a = c.args in
+    let v = c.prepare_four in
     rw v.auto.work
-    record { movable = s.requires.movable; lo_lt_hi = (s.requires.lo_lt_hi.0, s.requires.lo_lt_hi.1, prepared-rows (kernel_of a.kernel) (places a.border a.n) a.part a.work.now v.new.work s.requires.movable.roomy s.requires.lo_lt_hi.0 s.requires.lo_lt_hi.1 s.requires.lo_lt_hi.2 (prepared-are p.before.before)) }
+    record {
+      movable = c.requires.movable;
+      lo_lt_hi = (c.requires.lo_lt_hi.0, c.requires.lo_lt_hi.1, prepared-rows (kernel_of a.kernel) (places a.border a.n) a.part a.work.now v.new.work c.requires.movable.roomy c.requires.lo_lt_hi.0 c.requires.lo_lt_hi.1 c.requires.lo_lt_hi.2 (prepared-are c.before.before));
+    }
 
 pub returns : goal.returns
 returns c =
-    let p = c in
-    let s = p in
-    λ (i : ℕ) (l : i < 4). rw (prepared-are p.before.before.before.before i l) at (c.weigh_four.ensures i l)
+    λ (i : ℕ) (l : i < 4). rw (prepared-are c.before.before.before.before i l) at (c.weigh_four.ensures i l)

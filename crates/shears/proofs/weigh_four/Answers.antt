@@ -58,12 +58,11 @@ overflow_add-y c = omega (arith, c.requires.movable.few)
 
 pub fraction_of-f-requires : goal.fraction_of-f-requires
 fraction_of-f-requires c =
-    let s = c in
-    (s.requires.movable.short, s.requires.movable.slight, omega (arith, s.requires.movable.few))
+    (c.requires.movable.short, c.requires.movable.slight, omega (arith, c.requires.movable.few))
 
 within : (c : After-fraction_of-f)
-    → let p = c in c.loop-i.i * m p.before.before.before + m p.before.before.before ≤ length p.args.work.now
-within c = let p = c in omega (arith, row_in (m p.before.before.before) 4 c.loop-i.i (omega arith), room p.before.before.before)
+    → c.loop-i.i * m c.before.before.before + m c.before.before.before ≤ length c.args.work.now
+within c = omega (arith, row_in (m c.before.before.before) 4 c.loop-i.i (omega arith), room c.before.before.before)
 
 pub overflow_mul-s : goal.overflow_mul-s
 overflow_mul-s c = omega (arith, within c)
@@ -79,32 +78,27 @@ slice_bounds-weigh_part-end c = omega (arith, within c)
 
 pub weigh_part-requires : goal.weigh_part-requires
 weigh_part-requires c =
-    let l = c in
-    let p = l in
-    let s = p in
-    let a = s.args in
-    let len = row_length (m p.before.before.before.before) a.work.now l.loop-i.i 4 (omega arith) (room p.before.before.before.before) in
-    rw (treated_next (m p.before.before.before.before) (weighing s.before.before.before.before.before) a.work.now (room p.before.before.before.before) (keeps p.before.before.before.before) l.loop-i.i l.loop-i.work (omega arith) l.loop-i.invariant.2, len, read_back w32 _ c.fraction_of-f.type_inv, c.fraction_of-f.ensures) record { lo_lt_hi = (s.requires.lo_lt_hi.0, end p.before.before.before.before, s.requires.movable.known, fraction_low _, fraction_below _); part_within = small p.before.before.before.before l.loop-i.i (omega arith) }
+    let a = c.args in
+    let len = row_length (m c.before.before.before.before) a.work.now c.loop-i.i 4 (omega arith) (room c.before.before.before.before) in
+    rw (treated_next (m c.before.before.before.before) (weighing c.before.before.before.before.before) a.work.now (room c.before.before.before.before) (keeps c.before.before.before.before) c.loop-i.i c.loop-i.work (omega arith) c.loop-i.invariant.2, len, read_back w32 _ c.fraction_of-f.type_inv, c.fraction_of-f.ensures) record {
+      lo_lt_hi = (c.requires.lo_lt_hi.0, end c.before.before.before.before, c.requires.movable.known, fraction_low _, fraction_below _);
+      part_within = small c.before.before.before.before c.loop-i.i (omega arith);
+    }
 
 pub loop-i-preserved : goal.loop-i-preserved
 loop-i-preserved c =
-    let l = c in
-    let p = l in
-    let s = p in
-    let a = s.args in
+    let a = c.args in
     let v = c.weigh_part in
     let f = read_back w32 _ c.fraction_of-f.type_inv ∙ c.fraction_of-f.ensures in (
       omega arith,
-      same_len_mid (l.loop-i.i * m p.before.before.before.before.before.before) (l.loop-i.i * m p.before.before.before.before.before.before + m p.before.before.before.before.before.before - l.loop-i.i * m p.before.before.before.before.before.before) l.loop-i.work v.new.row v.auto.row ∙ l.loop-i.invariant.1,
-      treated_more (m p.before.before.before.before.before.before) (weighing s.before.before.before.before.before.before.before) a.work.now (room p.before.before.before.before.before.before) (keeps p.before.before.before.before.before.before) l.loop-i.i l.loop-i.work _ (omega arith) l.loop-i.invariant.2 (rw f at v.ensures),
+      same_len_mid (c.loop-i.i * m c.before.before.before.before.before.before) (c.loop-i.i * m c.before.before.before.before.before.before + m c.before.before.before.before.before.before - c.loop-i.i * m c.before.before.before.before.before.before) c.loop-i.work v.new.row v.auto.row ∙ c.loop-i.invariant.1,
+      treated_more (m c.before.before.before.before.before.before) (weighing c.before.before.before.before.before.before.before) a.work.now (room c.before.before.before.before.before.before) (keeps c.before.before.before.before.before.before) c.loop-i.i c.loop-i.work _ (omega arith) c.loop-i.invariant.2 (rw f at v.ensures),
     )
 
 pub returns : goal.returns
 returns c =
-    let p = c in
-    let s = p in
-    let a = s.args in
+    let a = c.args in
     let e : c.loop-i.i ≡ 4 = omega arith in
     λ (i : ℕ) (l : i < 4).
-    subst (λ (n : ℕ). row_of n c.loop-i.work i ≡ weighing s.before.before.before i (row_of n a.work.now i)) p.places_of-m.ensures
-    (rw (c.loop-i.invariant.2, e) (treated_row (m p.before.before) (weighing s.before.before.before) a.work.now (room p.before.before) (keeps p.before.before) i l))
+    subst (λ (n : ℕ). row_of n c.loop-i.work i ≡ weighing c.before.before.before i (row_of n a.work.now i)) c.places_of-m.ensures
+    (rw (c.loop-i.invariant.2, e) (treated_row (m c.before.before) (weighing c.before.before.before) a.work.now (room c.before.before) (keeps c.before.before) i l))

@@ -12,11 +12,10 @@ loop-i-init c = (omega arith, search rules, paste-zero c.args.dest.now c.args.to
 
 pub loop-i-preserved : goal.loop-i-preserved
 loop-i-preserved c =
-    let l = c in
-    let a = l.args in (
+    let a = c.args in (
       omega arith,
       simp length-set (omega arith),
-      rw (l.loop-i.invariant.2, add-one l.loop-i.i) (paste-suc a.dest.now a.to a.source.now l.loop-i.i 0 (omega arith) (omega arith)),
+      rw (c.loop-i.invariant.2, add-one c.loop-i.i) (paste-suc a.dest.now a.to a.source.now c.loop-i.i 0 (omega arith) (omega arith)),
     )
 
 pub returns : goal.returns

@@ -7,8 +7,7 @@ use Rattle.stream.proofs.finish.Goals as goal
 
 pub returns-then-used-eq0 : goal.returns-then-used-eq0
 returns-then-used-eq0 c =
-    let s = c in
-    finished_here s.args.s.now s.args.carry.now s.args.out.now _ s.args.used _ c.if-used-eq0.true s.requires.3 c.answer_in.ensures.text
+    finished_here c.args.s.now c.args.carry.now c.args.out.now _ c.args.used _ c.if-used-eq0.true c.requires.3 c.answer_in.ensures.text
 
 pub slice_bounds-answer_in-end : goal.slice_bounds-answer_in-end
 slice_bounds-answer_in-end c = omega (arith, c.join-n.ensures.0, c.join-n.auto.line)
@@ -18,5 +17,4 @@ slice_bounds-answer_in-end-2 c = let j = c.join-n in sym (length-take-le j.resul
 
 pub returns : goal.returns
 returns c =
-    let s = c in
-    finished_held s.args.s.now _ _ s.args.out.now _ _ c.join-n.ensures.1 s.requires.3 c.answer_in-2.ensures.text
+    finished_held c.args.s.now _ _ c.args.out.now _ _ c.join-n.ensures.1 c.requires.3 c.answer_in-2.ensures.text

@@ -6,6 +6,5 @@ use Rattle.stream.proofs.hold.Goals as goal
 
 pub returns : goal.returns
 returns c =
-    let s = c in
     let n = c.least-n in
-    rw c.copy.ensures (held_stands s.args.carry.now s.args.s.now s.args.used n.result (omega arith) s.requires.1 (n.ensures ∙ rw s.requires.1 refl))
+    rw c.copy.ensures (held_stands c.args.carry.now c.args.s.now c.args.used n.result (omega arith) c.requires.1 (n.ensures ∙ rw c.requires.1 refl))

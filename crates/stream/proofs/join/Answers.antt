@@ -5,5 +5,4 @@ use Rattle.stream.proofs.join.Goals as goal
 
 pub returns : goal.returns
 returns c =
-    let s = c in
-    joined s.args.line.now _ s.args.carry.now s.args.s.now _ s.args.used _ (omega arith) c.copy.ensures c.hold.ensures
+    joined c.args.line.now _ c.args.carry.now c.args.s.now _ c.args.used _ (omega arith) c.copy.ensures c.hold.ensures

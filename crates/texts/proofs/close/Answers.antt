@@ -6,7 +6,7 @@ use Rattle.format.proofs.Front.{closed_by}
 use Rattle.texts.proofs.close.Goals as goal
 
 pub slice_bounds-spell-end-2 : goal.slice_bounds-spell-end-2
-slice_bounds-spell-end-2 c = let s = c in sym (length-take-le s.args.end s.args.out.now (omega arith))
+slice_bounds-spell-end-2 c = sym (length-take-le c.args.end c.args.out.now (omega arith))
 
 pub returns : goal.returns
-returns c = let s = c in (refl, closed_by _ s.args.out.now s.args.end s.requires c.spell.ensures)
+returns c = (refl, closed_by _ c.args.out.now c.args.end c.requires c.spell.ensures)

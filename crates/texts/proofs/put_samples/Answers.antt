@@ -14,13 +14,11 @@ loop-k-init c = let a = c.args in (omega arith, search rules, samples_none a.sam
 
 pub loop-k-preserved : goal.loop-k-preserved
 loop-k-preserved c =
-    let l = c in
-    let a = l.args in
-    let p = c in
-    let w = p.word_of in (
+    let a = c.args in
+    let w = c.word_of in (
       omega arith,
-      p.put_at.auto.out ∙ l.loop-k.invariant.1,
-      p.put_at.ensures ∙ rw l.loop-k.invariant.2 (samples_more a.samples.now a.out.now l.loop-k.k w.result (omega arith) (rw (to_z-of_z {w = w32} {z = get_or a.samples.now l.loop-k.k (pos 0)} (omega arith)) at w.ensures)),
+      c.put_at.auto.out ∙ c.loop-k.invariant.1,
+      c.put_at.ensures ∙ rw c.loop-k.invariant.2 (samples_more a.samples.now a.out.now c.loop-k.k w.result (omega arith) (rw (to_z-of_z {w = w32} {z = get_or a.samples.now c.loop-k.k (pos 0)} (omega arith)) at w.ensures)),
     )
 
 pub returns : goal.returns

@@ -49,24 +49,22 @@ slice_bounds-copy-end c = omega (arith, reach c.before)
 
 pub copy-requires : goal.copy-requires
 copy-requires c =
-    let t = c in
-    let a = t.before.before.args in (
-      omega (arith, part_length _ a.rows a.picture.now (reach t.before.before.before)),
-      omega (arith, part_length (j t.before.before.before * 68) a.rows t.loop-j.block (omega (arith, t.loop-j.invariant.1.long))),
+    let a = c.args in (
+      omega (arith, part_length _ a.rows a.picture.now (reach c.before.before.before)),
+      omega (arith, part_length (j c.before.before.before * 68) a.rows c.loop-j.block (omega (arith, c.loop-j.invariant.1.long))),
     )
 
 pub loop-j-preserved : goal.loop-j-preserved
 loop-j-preserved c =
-    let t = c in
-    let a = t.before.before.before.before.args in
-    let l = t.loop-j in
-    let room : j t.before.before.before.before.before * 68 + a.rows ≤ length a.block.now = omega arith in
-    let own = part_length (j t.before.before.before.before.before * 68) a.rows l.block (omega (arith, l.invariant.1.long)) in (
+    let a = c.args in
+    let l = c.loop-j in
+    let room : j c.before.before.before.before.before * 68 + a.rows ≤ length a.block.now = omega arith in
+    let own = part_length (j c.before.before.before.before.before * 68) a.rows l.block (omega (arith, l.invariant.1.long)) in (
       omega arith,
-      patch_row 68 0 a.rows 0 (j t.before.before.before.before.before) (j t.before.before.before.before.before * 68) (loaded a.view a.x a.first a.picture.now) a.block.now l.block c.copy.new.dst (omega arith) (omega arith) room
-          (copied-length _ a.rows a.picture.now _ _ (reach t.before.before.before.before.before) own c.copy.ensures)
-          (λ k m. copied_at _ a.rows a.picture.now _ _ (reach t.before.before.before.before.before) own c.copy.ensures k m
-          ∙ loaded_at a.view a.x a.first (j t.before.before.before.before.before) t.face.result k a.picture.now t.face.ensures)
+      patch_row 68 0 a.rows 0 (j c.before.before.before.before.before) (j c.before.before.before.before.before * 68) (loaded a.view a.x a.first a.picture.now) a.block.now l.block c.copy.new.dst (omega arith) (omega arith) room
+          (copied-length _ a.rows a.picture.now _ _ (reach c.before.before.before.before.before) own c.copy.ensures)
+          (λ k m. copied_at _ a.rows a.picture.now _ _ (reach c.before.before.before.before.before) own c.copy.ensures k m
+          ∙ loaded_at a.view a.x a.first (j c.before.before.before.before.before) c.face.result k a.picture.now c.face.ensures)
           l.invariant.1,
     )
 

@@ -13,19 +13,17 @@ loop-k-init c = (omega arith, search rules, fill_start _ _)
 
 pub loop-k-preserved : goal.loop-k-preserved
 loop-k-preserved c =
-    let s = c in
     let l = c.loop-k in
-    let samples = s.args.samples.now in (
+    let samples = c.args.samples.now in (
       omega arith,
       simp length-set (omega arith),
-      fill_step (λ k. line samples (length s.args.res.now - 1 - k)) s.args.res.now l.k l.res _ l.invariant.2 (omega arith)
+      fill_step (λ k. line samples (length c.args.res.now - 1 - k)) c.args.res.now l.k l.res _ l.invariant.2 (omega arith)
           (search rules),
     )
 
 pub returns : goal.returns
 returns c =
-    let s = c in
     let l = c.loop-k in
-    let n = length s.args.res.now in
+    let n = length c.args.res.now in
     let e : l.k ≡ n = omega arith in
-    fill_end (λ k. line s.args.samples.now (n - 1 - k)) s.args.res.now l.k l.res l.invariant.2 (omega arith) ∙ rw e refl
+    fill_end (λ k. line c.args.samples.now (n - 1 - k)) c.args.res.now l.k l.res l.invariant.2 (omega arith) ∙ rw e refl

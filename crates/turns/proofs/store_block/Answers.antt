@@ -59,22 +59,20 @@ slice_bounds-load_line-end c = omega (arith, room c.before, c.loop-i.invariant.1
 
 pub load_line-requires : goal.load_line-requires
 load_line-requires c k l =
-    let t = c in
-    let a = t.args in
-    let low = facing_below a.back a.rows t.loop-i.i (omega arith) in
-    omega (arith, t.face.ensures, low, own t.before.before, t.requires.0)
+    let a = c.args in
+    let low = facing_below a.back a.rows c.loop-i.i (omega arith) in
+    omega (arith, c.face.ensures, low, own c.before.before, c.requires.0)
 
 pub loop-i-preserved : goal.loop-i-preserved
 loop-i-preserved c =
-    let t = c in
-    let a = t.args in
-    let l = t.loop-i in (
+    let a = c.args in
+    let l = c.loop-i in (
       omega arith,
       patch_row a.width a.x a.columns a.y l.i ((a.y + l.i) * a.width + a.x) (λ i j. line a.block.now (facing a.back a.rows i + j * 68))
-          a.res.now l.res c.load_line.new.samples (omega arith) refl (room t.before.before.before.before)
-          (read_length _ 68 a.columns _ a.block.now _ (own t.before.before.before.before) c.load_line.ensures)
-          (λ k m. read_at _ 68 a.columns _ a.block.now _ (own t.before.before.before.before) c.load_line.ensures k m
-          ∙ ap (λ (i : ℕ). line a.block.now (i + k * 68)) t.face.ensures)
+          a.res.now l.res c.load_line.new.samples (omega arith) refl (room c.before.before.before.before)
+          (read_length _ 68 a.columns _ a.block.now _ (own c.before.before.before.before) c.load_line.ensures)
+          (λ k m. read_at _ 68 a.columns _ a.block.now _ (own c.before.before.before.before) c.load_line.ensures k m
+          ∙ ap (λ (i : ℕ). line a.block.now (i + k * 68)) c.face.ensures)
           l.invariant.1,
     )
 

@@ -32,19 +32,16 @@ loop-x-init c = (omega arith, refl, patch_no_column _ _ _ _ _ _)
 
 pub load_block-requires : goal.load_block-requires
 load_block-requires c =
-    let t = c in
-    let p = t.before.requires in
-    (p.0.picture_places, record { across = few t.before; down = p.1.down; room = t.loop-x.invariant.1 ∙ p.1.room }, fits t.before, inside t.before)
+    let p = c.requires in
+    (p.0.picture_places, record { across = few c.before; down = p.1.down; room = c.loop-x.invariant.1 ∙ p.1.room }, fits c.before, inside c.before)
 
 pub store_block-requires : goal.store_block-requires
 store_block-requires c =
-    let u = c in
-    let t = u in
-    let p = t.before.before.before.before.requires in
-    let v = t.before.before.before.before.args.view in (
-      record { across = few t.before.before.before.before; down = p.1.down; room = u.load_block.ensures.long ∙ t.loop-x.invariant.1 ∙ p.1.room },
-      fits t.before.before.before.before,
-      omega (arith, mul-le-mul_left v.height p.3, mul_comm v.height (t.before.before.before.before.args.y + t.before.before.before.before.args.rows), mul_comm v.height v.width, p.0.result_places, t.loop-x.invariant.2.long),
+    let p = c.requires in
+    let v = c.args.view in (
+      record { across = few c.before.before.before.before; down = p.1.down; room = c.load_block.ensures.long ∙ c.loop-x.invariant.1 ∙ p.1.room },
+      fits c.before.before.before.before,
+      omega (arith, mul-le-mul_left v.height p.3, mul_comm v.height (c.args.y + c.args.rows), mul_comm v.height v.width, p.0.result_places, c.loop-x.invariant.2.long),
       p.0.tall,
     )
 
@@ -52,22 +49,20 @@ pub overflow_add-x : goal.overflow_add-x
 overflow_add-x c = omega (arith, fits c.before.before.before.before.before.before)
 
 pub loop-x-smaller : goal.loop-x-smaller
-loop-x-smaller c = let t = c in omega (arith, fits t.before.before.before.before.before.before, some t.before.before.before.before.before.before)
+loop-x-smaller c = omega (arith, fits c.before.before.before.before.before.before, some c.before.before.before.before.before.before)
 
 pub loop-x-preserved : goal.loop-x-preserved
 loop-x-preserved c =
-    let u = c in
-    let t = u in
-    let a = t.before.before.before.before.before.before.args in
-    let l = t.loop-x in
+    let a = c.args in
+    let l = c.loop-x in
     let v = a.view in
     let p : Picture = λ i k. seen v a.picture.now (a.y + i) k in
-    let n = t.least-columns.result in (
-      fits t.before.before.before.before.before.before,
-      u.load_block.ensures.long ∙ l.invariant.1,
-      patch_columns v.height l.x n a.y a.rows p a.res.now l.res _ (fits t.before.before.before.before.before.before) l.invariant.2
+    let n = c.least-columns.result in (
+      fits c.before.before.before.before.before.before,
+      c.load_block.ensures.long ∙ l.invariant.1,
+      patch_columns v.height l.x n a.y a.rows p a.res.now l.res _ (fits c.before.before.before.before.before.before) l.invariant.2
           (patch_cong v.height _ (λ i k. p i (l.x + k))
-          (block_seen v l.x n (first t.before.before.before.before.before.before) a.y a.rows a.picture.now _ _ t.before.before.before.before.before.before.requires.3 t.face-first.ensures u.load_block.ensures)
+          (block_seen v l.x n (first c.before.before.before.before.before.before) a.y a.rows a.picture.now _ _ c.requires.3 c.face-first.ensures c.load_block.ensures)
           c.store_block.ensures),
     )
 

@@ -28,9 +28,8 @@ loop-y-init c = (omega arith, search rules, patch_no_row _ _ _ _ _ _)
 
 pub write_band-requires : goal.write_band-requires
 write_band-requires c =
-    let t = c in
-    let l = t.loop-y in
-    let p = t.requires in (
+    let l = c.loop-y in
+    let p = c.requires in (
       record { wide = p.wide; tall = p.tall; picture_places = p.picture_places; result_places = omega (arith, p.result_places, l.invariant.2.long) },
       record { across = omega arith; down = few (goal.at.write_band-requires c).After-least-rows; room = l.invariant.1 },
       some (goal.at.write_band-requires c).After-least-rows,
@@ -41,18 +40,16 @@ pub overflow_add-y : goal.overflow_add-y
 overflow_add-y c = omega (arith, fits (goal.at.overflow_add-y c).After-least-rows)
 
 pub loop-y-smaller : goal.loop-y-smaller
-loop-y-smaller c = let t = c in omega (arith, fits (goal.at.loop-y-smaller c).After-least-rows, some (goal.at.loop-y-smaller c).After-least-rows)
+loop-y-smaller c = omega (arith, fits (goal.at.loop-y-smaller c).After-least-rows, some (goal.at.loop-y-smaller c).After-least-rows)
 
 pub loop-y-preserved : goal.loop-y-preserved
 loop-y-preserved c =
-    let u = c in
-    let t = u in
-    let a = t.args in
-    let l = t.loop-y in
+    let a = c.args in
+    let l = c.loop-y in
     let v = a.view in (
       fits (goal.at.loop-y-preserved c).After-least-rows,
       search rules,
-      patch_rows v.height 0 v.height l.y t.least-rows.result (seen v a.picture.now) a.res.now l.res _ (omega arith) l.invariant.2 u.write_band.ensures,
+      patch_rows v.height 0 v.height l.y c.least-rows.result (seen v a.picture.now) a.res.now l.res _ (omega arith) l.invariant.2 c.write_band.ensures,
     )
 
 pub shape_of-res : goal.shape_of-res
@@ -61,8 +58,7 @@ shape_of-res c = c.loop-y.invariant.2.long
 pub returns : goal.returns
 returns c =
     let l = c.loop-y in
-    let t = c in
-    let v = t.args.view in
+    let v = c.args.view in
     let e : l.y ≡ v.width = omega arith in
-    patch_whole v.height v.width (seen v t.args.picture.now) t.args.res.now l.res t.requires.tall (omega (arith, t.requires.result_places, mul_comm v.height v.width)) (rw e at l.invariant.2)
-    ∙ ap (λ (n : ℕ). pictured v.height v.width (seen v t.args.picture.now) ++ drop n t.args.res.now) (mul_comm v.height v.width)
+    patch_whole v.height v.width (seen v c.args.picture.now) c.args.res.now l.res c.requires.tall (omega (arith, c.requires.result_places, mul_comm v.height v.width)) (rw e at l.invariant.2)
+    ∙ ap (λ (n : ℕ). pictured v.height v.width (seen v c.args.picture.now) ++ drop n c.args.res.now) (mul_comm v.height v.width)

@@ -63,22 +63,20 @@ offset_bounds-res-at c = omega (arith, written c.before)
 
 pub copy_facing-requires : goal.copy_facing-requires
 copy_facing-requires c =
-    let t = c in
-    part_length (t.face.result * W t.before.before) (W t.before.before) t.before.before.args.picture.now (read t.before.before) ∙ sym (own t.before.before)
+    part_length (c.face.result * W c.before.before) (W c.before.before) c.args.picture.now (read c.before.before) ∙ sym (own c.before.before)
 
 pub loop-y-preserved : goal.loop-y-preserved
 loop-y-preserved c =
-    let t = c in
-    let a = t.before.before.before.before.args in
+    let a = c.args in
     let v = a.view in
-    let l = t.loop-y in
+    let l = c.loop-y in
     let e = c.copy_facing.ensures in (
       omega arith,
-      patch_row (W t.before.before.before.before) 0 (W t.before.before.before.before) 0 (y t.before.before.before.before) (y t.before.before.before.before * W t.before.before.before.before) (viewed false v.right v.below (screen v.width v.height a.picture.now)).at a.res.now l.res
-          c.copy_facing.new.res (omega arith) (omega arith) (written t.before.before.before.before)
-          (faced_length v.right (t.face.result * W t.before.before.before.before) (W t.before.before.before.before) _ a.picture.now _ (read t.before.before.before.before) (own t.before.before.before.before) e)
-          (λ k m. faced_at v.right (t.face.result * W t.before.before.before.before) (W t.before.before.before.before) _ a.picture.now _ (read t.before.before.before.before) (own t.before.before.before.before) e k m
-          ∙ faced_row (W t.before.before.before.before) v.height v.right v.below (y t.before.before.before.before) t.face.result k a.picture.now t.face.ensures)
+      patch_row (W c.before.before.before.before) 0 (W c.before.before.before.before) 0 (y c.before.before.before.before) (y c.before.before.before.before * W c.before.before.before.before) (viewed false v.right v.below (screen v.width v.height a.picture.now)).at a.res.now l.res
+          c.copy_facing.new.res (omega arith) (omega arith) (written c.before.before.before.before)
+          (faced_length v.right (c.face.result * W c.before.before.before.before) (W c.before.before.before.before) _ a.picture.now _ (read c.before.before.before.before) (own c.before.before.before.before) e)
+          (λ k m. faced_at v.right (c.face.result * W c.before.before.before.before) (W c.before.before.before.before) _ a.picture.now _ (read c.before.before.before.before) (own c.before.before.before.before) e k m
+          ∙ faced_row (W c.before.before.before.before) v.height v.right v.below (y c.before.before.before.before) c.face.result k a.picture.now c.face.ensures)
           l.invariant.1,
     )
 
@@ -88,8 +86,7 @@ shape_of-res c = c.loop-y.invariant.1.long
 pub returns : goal.returns
 returns c =
     let l = c.loop-y in
-    let t = c in
-    let v = t.args.view in
+    let v = c.args.view in
     let e : l.y ≡ v.height = omega arith in
-    patch_whole v.width v.height (viewed false v.right v.below (screen v.width v.height t.args.picture.now)).at t.args.res.now l.res
-    t.requires.wide t.requires.result_places (rw e at l.invariant.1)
+    patch_whole v.width v.height (viewed false v.right v.below (screen v.width v.height c.args.picture.now)).at c.args.res.now l.res
+    c.requires.wide c.requires.result_places (rw e at l.invariant.1)

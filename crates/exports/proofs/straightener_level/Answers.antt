@@ -1,0 +1,13 @@
+-- `exports::straightener_level` keeps what `levelling::level` promises. Assumes nothing.
+use mir.Facts.{to_z-of_z}
+use Rattle.exports.proofs.straightener_level.Goals as goal
+
+pub returns : goal.returns
+returns c =
+    let l = c in
+    let f = l.ranges in
+    record {
+      outcome = l.level.result;
+      promised = rw (to_z-of_z f.x1, to_z-of_z f.y1, to_z-of_z f.x2, to_z-of_z f.y2) at l.level.ensures;
+      answer = c.of_levelled.ensures;
+    }

@@ -1,0 +1,12 @@
+-- `exports::straightener_with_centre` answers what `Setting::with_centre` does, laid out flat. Assumes nothing.
+use mathlib.Core.Path.{ap, ◌∙◌}
+use Rattle.settings.specs.declared.Setting.{Setting}
+use Rattle.settings.specs.Setting.{with_centre}
+use Rattle.flat.specs.Exported.{laid_as}
+use Rattle.exports.proofs.straightener_with_centre.Goals as goal
+
+pub returns : goal.returns
+returns c =
+    let w = c in
+    let s = w in
+    c.laid_as.ensures ∙ ap (laid_as s.args.setting) (w.with_centre.ensures ∙ ap (λ (t : Setting). with_centre t s.args.cx s.args.cy) w.setting_of-before.ensures)
