@@ -41,10 +41,10 @@ lies c = c.slices_of-s.ensures
 rooms : (c : After-room_of-room) → c.room_of-room.result ≡ room_of (lie (start2 c.before.before))
 rooms c = c.room_of-room.ensures ∙ ap room_of (lies c.before)
 
-short-is : (c : After-too_short)
+short_is : (c : After-too_short)
     → let s = start2 c.before.before.before in
     c.too_short.result ≡ too_short (s.args.width * s.args.height * s.args.depth) (room_of (lie s)) (length s.args.block.now) s.args.res s.args.work
-short-is c =
+short_is c =
     let s = start2 c.before.before.before in
     c.too_short.ensures
     ∙ ap (λ (n : ℕ). too_short (s.args.width * s.args.height * s.args.depth) n (length s.args.block.now) s.args.res s.args.work) (rooms c.before)
@@ -54,11 +54,11 @@ start3 c = start2 c.before.before.before.before
 
 no2 : (c : Else-too_short)
     → let s = start3 c in too_short (s.args.width * s.args.height * s.args.depth) (room_of (lie s)) (length s.args.block.now) s.args.res s.args.work ≡ false
-no2 c = sym (short-is c.before) ∙ c.if-too_short.false
+no2 c = sym (short_is c.before) ∙ c.if-too_short.false
 
-setting-is : (c : After-judge_setting-verdict)
+setting_is : (c : After-judge_setting-verdict)
     → let s = start3 c.before in c.judge_setting-verdict.result ≡ judged_setting (lie s).columns (lie s).rows s.args.setting
-setting-is c =
+setting_is c =
     let s = start3 c.before in
     c.judge_setting-verdict.ensures ∙ ap (λ (t : Slices). judged_setting t.columns t.rows s.args.setting) (lies c.before.before.before.before)
 
@@ -98,7 +98,7 @@ overflow_mul-width-2 c =
 
 pub returns-then-too_short : goal.returns-then-too_short
 unfolding judged
-returns-then-too_short c = rw (no1 c.before.before.before.before.before, no17 c.before.before.before.before, sym (short-is c.before) ∙ c.if-too_short.true) refl
+returns-then-too_short c = rw (no1 c.before.before.before.before.before, no17 c.before.before.before.before, sym (short_is c.before) ∙ c.if-too_short.true) refl
 
 pub overflow_mul-depth : goal.overflow_mul-depth
 overflow_mul-depth c =
@@ -109,8 +109,8 @@ overflow_mul-depth c =
 rows_few : (h d : ℕ) → h ≤ 128 → d ≤ 128 → d * h ≤ 16384
 rows_few h d few-high few-deep = omega (arith, mul-le-mul few-deep few-high)
 
-rows-held : (w h d n : ℕ) → w * h * d ≤ n → d * h * w ≤ n
-rows-held w h d n l = omega arith
+rows_held : (w h d n : ℕ) → w * h * d ≤ n → d * h * w ≤ n
+rows_held w h d n l = omega arith
 
 pub scanned-requires : goal.scanned-requires
 scanned-requires c =
@@ -120,7 +120,7 @@ scanned-requires c =
     let l = long_enough _ _ _ _ _ (no2 e) in (
       omega (arith, z.0.1),
       rows_few a.height a.depth z.1.1 z.2.1,
-      rows-held a.width a.height a.depth (length a.block.now) l.0,
+      rows_held a.width a.height a.depth (length a.block.now) l.0,
       record { from = le_z_yes tt; to = le_z_yes tt },
     )
 
@@ -128,7 +128,7 @@ pub returns-in-Refused : goal.returns-in-Refused
 unfolding judged
 returns-in-Refused c =
     let e = c.before.before in
-    rw (no1 e.before.before.before.before.before, no17 e.before.before.before.before, no2 e, ← setting-is c.before, c.in-Refused.is) refl
+    rw (no1 e.before.before.before.before.before, no17 e.before.before.before.before, no2 e, ← setting_is c.before, c.in-Refused.is) refl
 
 pub returns-in-Accepted : goal.returns-in-Accepted
 returns-in-Accepted c =
@@ -137,4 +137,4 @@ returns-in-Accepted c =
     let a = (start3 e).args in
     c.scanned.ensures
     ∙ sym (only_samples a.width a.height a.depth a.plane a.setting a.block.now a.res a.work
-    (no1 e.before.before.before.before.before) (no17 e.before.before.before.before) (no2 e) (sym (setting-is told) ∙ c.in-Accepted.is))
+    (no1 e.before.before.before.before.before) (no17 e.before.before.before.before) (no2 e) (sym (setting_is told) ∙ c.in-Accepted.is))

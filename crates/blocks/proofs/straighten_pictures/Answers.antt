@@ -15,9 +15,9 @@ use Rattle.blocks.proofs.straighten_pictures.Goals as goal
 use Rattle.blocks.proofs.straighten_pictures.Goals.{After-straighten_accepted, At-loop-z, Start}
 
 -- a picture to come ends inside the block
-ends-inside : (l : At-loop-z) → l.loop-z.z < l.args.depth
+ends_inside : (l : At-loop-z) → l.loop-z.z < l.args.depth
     → let a = l.args in l.loop-z.z * (a.width * a.height) + a.width * a.height ≤ a.width * a.height * a.depth
-ends-inside l h =
+ends_inside l h =
     let a = l.args in
     ends a.width a.height a.depth a.setting a.block.now l.requires.width.0 l.requires.height.0 l.requires.block_places l.loop-z.z h
 
@@ -38,22 +38,22 @@ loop-z-init c =
     )
 
 pub overflow_mul-at : goal.overflow_mul-at
-overflow_mul-at c = let l = c.before in omega (arith, ends-inside l (omega arith), l.requires.block_places)
+overflow_mul-at c = let l = c.before in omega (arith, ends_inside l (omega arith), l.requires.block_places)
 
 pub offset_bounds-block-at : goal.offset_bounds-block-at
-offset_bounds-block-at c = let l = c.before in omega (arith, ends-inside l (omega arith), l.requires.block_places)
+offset_bounds-block-at c = let l = c.before in omega (arith, ends_inside l (omega arith), l.requires.block_places)
 
 pub slice_bounds-straighten_accepted-count : goal.slice_bounds-straighten_accepted-count
-slice_bounds-straighten_accepted-count c = let l = c.before in omega (arith, ends-inside l (omega arith), l.requires.block_places)
+slice_bounds-straighten_accepted-count c = let l = c.before in omega (arith, ends_inside l (omega arith), l.requires.block_places)
 
 pub slice_bounds-straighten_accepted-start : goal.slice_bounds-straighten_accepted-start
-slice_bounds-straighten_accepted-start c = let l = c.before in omega (arith, ends-inside l (omega arith), l.requires.block_places)
+slice_bounds-straighten_accepted-start c = let l = c.before in omega (arith, ends_inside l (omega arith), l.requires.block_places)
 
 pub offset_bounds-res-at : goal.offset_bounds-res-at
-offset_bounds-res-at c = let l = c.before.before in omega (arith, ends-inside l (omega arith), l.requires.result_places, l.loop-z.invariant.1)
+offset_bounds-res-at c = let l = c.before.before in omega (arith, ends_inside l (omega arith), l.requires.result_places, l.loop-z.invariant.1)
 
 pub slice_bounds-straighten_accepted-count-in-loop-z : goal.slice_bounds-straighten_accepted-count-in-loop-z
-slice_bounds-straighten_accepted-count-in-loop-z c = let l = c.before.before in omega (arith, ends-inside l (omega arith), l.requires.result_places, l.loop-z.invariant.1)
+slice_bounds-straighten_accepted-count-in-loop-z c = let l = c.before.before in omega (arith, ends_inside l (omega arith), l.requires.result_places, l.loop-z.invariant.1)
 
 pub straighten_accepted-requires : goal.straighten_accepted-requires
 straighten_accepted-requires c =
@@ -62,7 +62,7 @@ straighten_accepted-requires c =
     let f = l.requires in
     let h : l.loop-z.z < a.depth = c.loop-z-test.true in
     picture_fit a.width a.height a.depth a.setting a.block.now f.width.0 f.height.0 f.block_places l.loop-z.z h f _ _
-    (simp (length-take, length-drop) (omega (arith, ends-inside l h, f.result_places, l.loop-z.invariant.1))) (omega (arith, f.work_places_lent, l.loop-z.invariant.2))
+    (simp (length-take, length-drop) (omega (arith, ends_inside l h, f.result_places, l.loop-z.invariant.1))) (omega (arith, f.work_places_lent, l.loop-z.invariant.2))
 
 -- ---- the result with one picture more
 module _ (c : After-straighten_accepted) where
@@ -101,7 +101,7 @@ module _ (c : After-straighten_accepted) where
       f.result_places loop.loop-z.invariant.3 c.straighten_accepted.ensures.res_after
 
   inside : at + n ≤ length next
-  inside = omega (arith, ends-inside loop more, start.requires.result_places, next_long)
+  inside = omega (arith, ends_inside loop more, start.requires.result_places, next_long)
 
 pub offset_bounds-res-at-in-loop-z : goal.offset_bounds-res-at-in-loop-z
 offset_bounds-res-at-in-loop-z c = let w = c.before.before in omega (arith, inside w, next_long w)

@@ -30,11 +30,11 @@ whole s = length-take-le (places s) s.args.block.now s.requires.block_places
 abbrev copy_start : After-copy → Start
 copy_start c = c.before.before.before.before
 
-abbrev swept-copy : After-straighten_slices → After-copy
-swept-copy c = c.before.before.before.before
+abbrev swept_copy : After-straighten_slices → After-copy
+swept_copy c = c.before.before.before.before
 
-abbrev swept-room : After-straighten_slices → After-room_of-room
-swept-room c = (swept-copy c).before.before
+abbrev swept_room : After-straighten_slices → After-room_of-room
+swept_room c = (swept_copy c).before.before
 
 -- the part of the result that is lent holds the block
 copied : (c : After-copy) → take (places (copy_start c)) c.copy.new.dst ≡ take (places (copy_start c)) (copy_start c).args.block.now
@@ -55,13 +55,13 @@ lent c = length-take-le c.room_of-room.result c.args.work.now (roomy c)
 
 -- what is left of the lent part is the block's slices, straightened
 straight : (c : After-straighten_slices)
-    → let s = copy_start (swept-copy c) in Straightened (lie s) s.args.setting (take (places s) s.args.block.now) c.straighten_slices.new.list
+    → let s = copy_start (swept_copy c) in Straightened (lie s) s.args.setting (take (places s) s.args.block.now) c.straighten_slices.new.list
 straight c =
-    let k = swept-copy c in
+    let k = swept_copy c in
     let s = copy_start k in
     let left = c.straighten_slices.new.list in
-    subst (λ (t : Slices). Straightened t s.args.setting (take (places s) s.args.block.now) left) (swept-room c).before.slices_of-s.ensures
-    (subst (λ (l : List ℤ). Straightened (swept-room c).before.slices_of-s.result s.args.setting l left) (copied k) c.straighten_slices.ensures)
+    subst (λ (t : Slices). Straightened t s.args.setting (take (places s) s.args.block.now) left) (swept_room c).before.slices_of-s.ensures
+    (subst (λ (l : List ℤ). Straightened (swept_room c).before.slices_of-s.result s.args.setting l left) (copied k) c.straighten_slices.ensures)
 
 pub overflow_mul-places : goal.overflow_mul-places
 overflow_mul-places c = omega (arith, mul-le-mul c.requires.width.1 c.requires.height.1)
@@ -96,12 +96,12 @@ straighten_slices-requires c =
 pub clear-requires : goal.clear-requires
 clear-requires c =
     let t = c.before.before.before in
-    simp length-append (omega (arith, t.straighten_slices.auto.work ∙ lent (swept-room t)))
+    simp length-append (omega (arith, t.straighten_slices.auto.work ∙ lent (swept_room t)))
 
 pub extremes_of-requires : goal.extremes_of-requires
 extremes_of-requires c =
     let w = c.before.before.before.before.before in
-    let k = swept-copy w in
+    let k = swept_copy w in
     let s = copy_start k in
     (some_places s.requires, simp length-append (omega (arith, w.straighten_slices.auto.list ∙ ap length (copied k) ∙ whole s)))
 
@@ -109,8 +109,8 @@ pub returns : goal.returns
 returns c =
     let w = c.before.before.before.before.before.before in
     let t = w.straighten_slices in
-    let k = swept-copy w in
-    let r = swept-room w in
+    let k = swept_copy w in
+    let r = swept_room w in
     let s = copy_start k in
     let a = s.args in
     let n = places s in

@@ -21,10 +21,10 @@ use Rattle.explanations.proofs.parts_in.Goals as goal
 use Rattle.explanations.proofs.parts_in.Goals.{Start}
 
 -- kernels weigh nothing larger than the spline's coefficients
-largest-weighed : (κ : Kernel) → weighed_size κ ≤ largest
-largest-weighed Linear = omega arith
-largest-weighed Keys = omega arith
-largest-weighed Spline = omega arith
+largest_weighed : (κ : Kernel) → weighed_size κ ≤ largest
+largest_weighed Linear = omega arith
+largest_weighed Keys = omega arith
+largest_weighed Spline = omega arith
 
 module _ (s : Start) where
   abbrev n : ℕ
@@ -55,7 +55,7 @@ module _ (s : Start) where
         few = omega (arith, prepared-length κ own, own_length, s.requires.passed.few);
         inside = omega (arith, prepared-length κ own, own_length, s.requires.inside);
         near = s.requires.passed.near;
-        small = λ j l. omega (arith, largest-weighed κ, prepared_size own some own_small κ j l);
+        small = λ j l. omega (arith, largest_weighed κ, prepared_size own some own_small κ j l);
       }
 
   -- the parts of the line that was prepared in place

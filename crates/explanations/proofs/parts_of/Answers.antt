@@ -143,8 +143,8 @@ quotient_fits Linear = all1 _ (simp division (omega arith))
 quotient_fits Keys = all1 _ (simp division (omega arith))
 quotient_fits Spline = all1 _ (simp division (omega arith))
 
-over-is : (c : After-divisor_of-divisor) → to_z w64 (of_z w64 c.divisor_of-divisor.result) ≡ pos (divisor (κ (w (terms c))))
-over-is c = read_back w64 _ c.divisor_of-divisor.type_inv ∙ c.divisor_of-divisor.ensures
+over_is : (c : After-divisor_of-divisor) → to_z w64 (of_z w64 c.divisor_of-divisor.result) ≡ pos (divisor (κ (w (terms c))))
+over_is c = read_back w64 _ c.divisor_of-divisor.type_inv ∙ c.divisor_of-divisor.ensures
 
 module _ (c : After-rounded) where
   abbrev made : After-term_of-e
@@ -154,7 +154,7 @@ module _ (c : After-rounded) where
   total = sum_of (κ (w made)) (length (a made).args.weighed.now) (a made).args.d (a made).args.k (x made)
 
   quotient_is : to_z w64 (of_z w64 c.rounded.result) ≡ round total (divisor (κ (w made)))
-  quotient_is = read_back w64 _ c.rounded.type_inv ∙ c.rounded.ensures ∙ ap₂ (λ (z o : ℤ). round z (nat_abs o)) (sum_is made) (over-is c.before)
+  quotient_is = read_back w64 _ c.rounded.type_inv ∙ c.rounded.ensures ∙ ap₂ (λ (z o : ℤ). round z (nat_abs o)) (sum_is made) (over_is c.before)
 
 pub weights_at-w-requires : goal.weights_at-w-requires
 weights_at-w-requires c = rw (to_z-of_z c.ranges.d) (c.requires.1, c.requires.0.near)
@@ -186,7 +186,7 @@ divisor_of-divisor-requires c = (a c.before.before.before.before.before.before.b
 pub rounded-requires : goal.rounded-requires
 rounded-requires c =
     let t = terms c in
-    rw (sum_is t, over-is c) (omega (arith, sum_size t), (divisor_range (κ (w t))).0, (divisor_range (κ (w t))).1)
+    rw (sum_is t, over_is c) (omega (arith, sum_size t), (divisor_range (κ (w t))).0, (divisor_range (κ (w t))).1)
 
 pub overflow_cast-result : goal.overflow_cast-result
 overflow_cast-result c = rw (quotient_is c) (quotient_fits (κ (w (made c))) (total c) (sum_size (made c)))
@@ -196,5 +196,5 @@ returns c =
     let t = made c in
     let n = (a t).args in
     let fits = quotient_fits (κ (w t)) (total c) (sum_size t) in
-    parts_are (κ (w t)) (length n.weighed.now) n.d n.k (x t) (first t) (second t) (third t) (fourth t) (sum_is t) (over-is c.before)
+    parts_are (κ (w t)) (length n.weighed.now) n.d n.k (x t) (first t) (second t) (third t) (fourth t) (sum_is t) (over_is c.before)
     (ap (λ z. to_z w32 (of_z w32 z)) (quotient_is c) ∙ to_z-of_z fits)

@@ -21,15 +21,15 @@ near : (d q : ℤ) (f : ℕ) → neg_ℤ d ≡ pos 4096 *ℤ q +ℤ pos f → f 
 near = all2 _ (simp bridge (omega arith))
 
 -- d as it was given
-far-is : (c : After-wide) → to_z w64 (of_z w64 c.wide.result) ≡ c.args.d
-far-is c = read_back w64 _ c.wide.type_inv ∙ c.wide.ensures ∙ to_z-of_z c.ranges.d
+far_is : (c : After-wide) → to_z w64 (of_z w64 c.wide.result) ≡ c.args.d
+far_is c = read_back w64 _ c.wide.type_inv ∙ c.wide.ensures ∙ to_z-of_z c.ranges.d
 
 module _ (c : After-whole_part) where
   abbrev s : Start
   s = c.before.before
 
   whole_is : c.whole_part.result ≡ whole s.args.d
-  whole_is = rw (far-is c.before) at c.whole_part.ensures
+  whole_is = rw (far_is c.before) at c.whole_part.ensures
 
   place : Sized {w = w64} (nat s.args.k +ᵐ arg c.whole_part.result -ᵐ num 1 +ᵐ nat s.args.i) 4195332
   place =
@@ -40,7 +40,7 @@ module _ (c : After-whole_part) where
       (nat_sized 3 (omega arith) tt) tt
 
 pub whole_part-requires : goal.whole_part-requires
-whole_part-requires c = rw (far-is c) (omega arith)
+whole_part-requires c = rw (far_is c) (omega arith)
 
 pub overflow_add-place : goal.overflow_add-place
 overflow_add-place c = fit 0 (place c)

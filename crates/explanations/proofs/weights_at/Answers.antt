@@ -12,19 +12,19 @@ use Rattle.explanations.proofs.weights_at.Goals as goal
 use Rattle.explanations.proofs.weights_at.Goals.{After-wide, After-wide-2}
 
 -- d and f as they were given
-far-is : (c : After-wide) → to_z w64 (of_z w64 c.wide.result) ≡ c.args.d
-far-is c = read_back w64 _ c.wide.type_inv ∙ c.wide.ensures ∙ to_z-of_z c.ranges.d
+far_is : (c : After-wide) → to_z w64 (of_z w64 c.wide.result) ≡ c.args.d
+far_is c = read_back w64 _ c.wide.type_inv ∙ c.wide.ensures ∙ to_z-of_z c.ranges.d
 
-f-is : (c : After-wide-2) → to_z w64 (of_z w64 c.wide-2.result) ≡ pos (fraction c.args.d)
-f-is c =
+f_is : (c : After-wide-2) → to_z w64 (of_z w64 c.wide-2.result) ≡ pos (fraction c.args.d)
+f_is c =
     let g = c.fraction_part-f in
-    read_back w64 _ c.wide-2.type_inv ∙ c.wide-2.ensures ∙ read_back w32 _ g.type_inv ∙ g.ensures ∙ ap (λ d. pos (fraction d)) (far-is c.before.before)
+    read_back w64 _ c.wide-2.type_inv ∙ c.wide-2.ensures ∙ read_back w32 _ g.type_inv ∙ g.ensures ∙ ap (λ d. pos (fraction d)) (far_is c.before.before)
 
 pub fraction_part-f-requires : goal.fraction_part-f-requires
-fraction_part-f-requires c = rw (far-is c) (omega arith)
+fraction_part-f-requires c = rw (far_is c) (omega arith)
 
 pub four_weights-requires : goal.four_weights-requires
-four_weights-requires c = rw (f-is c) (c.requires.0, omega (arith, (move_parts c.args.d).1))
+four_weights-requires c = rw (f_is c) (c.requires.0, omega (arith, (move_parts c.args.d).1))
 
 pub returns : goal.returns
-returns c = rw (f-is c.before) at c.four_weights.ensures
+returns c = rw (f_is c.before) at c.four_weights.ensures

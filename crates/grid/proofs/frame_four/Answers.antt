@@ -28,9 +28,9 @@ standing l = omega (arith, l.loop-i.invariant.1, l.requires.1)
 within : (c : In-loop-i) → c.loop-i.i * (3 * c.args.n) + 3 * c.args.n ≤ length c.args.work.now
 within c = omega (arith, row_in (3 * c.args.n) 4 c.loop-i.i (omega arith), c.requires.1)
 
-row-long : (l : At-loop-i) → l.loop-i.i < 4 → let m = 3 * l.args.n in
+row_long : (l : At-loop-i) → l.loop-i.i < 4 → let m = 3 * l.args.n in
     length (take (l.loop-i.i * m + m - l.loop-i.i * m) (drop (l.loop-i.i * m) l.loop-i.work)) ≡ m
-row-long l h = let m = 3 * l.args.n in ap length (row_part m l.loop-i.work l.loop-i.i) ∙ row_length m l.loop-i.work l.loop-i.i 4 h (standing l)
+row_long l h = let m = 3 * l.args.n in ap length (row_part m l.loop-i.work l.loop-i.i) ∙ row_length m l.loop-i.work l.loop-i.i 4 h (standing l)
 
 pub overflow_mul-s : goal.overflow_mul-s
 overflow_mul-s c = omega (arith, within c)
@@ -47,7 +47,7 @@ slice_bounds-frame-end c = omega (arith, within c)
 pub frame-requires : goal.frame-requires
 frame-requires c =
     let p = c.requires.2 in
-    (row-long c.before.before (omega arith), c.requires.0, p.0, omega (arith, p.1), p.2)
+    (row_long c.before.before (omega arith), c.requires.0, p.0, omega (arith, p.1), p.2)
 
 pub loop-i-preserved : goal.loop-i-preserved
 loop-i-preserved c =
@@ -56,7 +56,7 @@ loop-i-preserved c =
     let v = c.frame in (
       omega arith,
       same_len_mid (c.loop-i.i * m) (c.loop-i.i * m + m - c.loop-i.i * m) c.loop-i.work v.new.row v.auto.row ∙ c.loop-i.invariant.1,
-      rows_more m c.loop-i.work v.new.row c.loop-i.i (omega arith) (standing c.before.before.before.before) (v.auto.row ∙ row-long c.before.before.before.before (omega arith))
+      rows_more m c.loop-i.work v.new.row c.loop-i.i (omega arith) (standing c.before.before.before.before) (v.auto.row ∙ row_long c.before.before.before.before (omega arith))
           (λ j t. Framed a.n (to_z w32 (of_z w32 a.b)) a.part t) c.loop-i.invariant.2 v.ensures,
     )
 

@@ -54,13 +54,13 @@ slice_bounds-set_in-end c = omega (arith, within c)
 standing : (l : At-loop-i) → 4 * m l.before ≤ length l.loop-i.work
 standing l = omega (arith, room l.before, l.loop-i.invariant.1)
 
-row-long : (l : At-loop-i) → l.loop-i.i < 4 → length (take (l.loop-i.i * m l.before + m l.before - l.loop-i.i * m l.before) (drop (l.loop-i.i * m l.before) l.loop-i.work)) ≡ m l.before
-row-long l h = ap length (row_part (m l.before) l.loop-i.work l.loop-i.i) ∙ row_length (m l.before) l.loop-i.work l.loop-i.i 4 h (standing l)
+row_long : (l : At-loop-i) → l.loop-i.i < 4 → length (take (l.loop-i.i * m l.before + m l.before - l.loop-i.i * m l.before) (drop (l.loop-i.i * m l.before) l.loop-i.work)) ≡ m l.before
+row_long l h = ap length (row_part (m l.before) l.loop-i.work l.loop-i.i) ∙ row_length (m l.before) l.loop-i.work l.loop-i.i 4 h (standing l)
 
 pub set_in-requires : goal.set_in-requires
 set_in-requires c =
     let a = c.args in
-    record { n_bound = (c.requires.le_n.1, row-long c.before.before (omega arith) ∙ c.places_of-m.ensures); holds = c.requires.le_n.3; by_index = λ (k : ℕ) (h : k < a.n). omega (arith, source c.before k h) }
+    record { n_bound = (c.requires.le_n.1, row_long c.before.before (omega arith) ∙ c.places_of-m.ensures); holds = c.requires.le_n.3; by_index = λ (k : ℕ) (h : k < a.n). omega (arith, source c.before k h) }
 
 pub loop-i-preserved : goal.loop-i-preserved
 loop-i-preserved c =
@@ -70,7 +70,7 @@ loop-i-preserved c =
     let row = v.new.row in (
       omega arith,
       same_len_mid (c.loop-i.i * n) (c.loop-i.i * n + n - c.loop-i.i * n) c.loop-i.work row v.auto.row ∙ c.loop-i.invariant.1,
-      rows_more n c.loop-i.work row c.loop-i.i (omega arith) (standing c.before.before.before.before) (v.auto.row ∙ row-long c.before.before.before.before (omega arith))
+      rows_more n c.loop-i.work row c.loop-i.i (omega arith) (standing c.before.before.before.before) (v.auto.row ∙ row_long c.before.before.before.before (omega arith))
           (λ j t. Alike a.part t (set_in a.border (line_of (a.at + j * a.across) a.along a.n a.picture.now))) c.loop-i.invariant.2 v.ensures,
     )
 

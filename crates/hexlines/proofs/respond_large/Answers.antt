@@ -5,5 +5,4 @@ use Rattle.hexlines.proofs.respond_large.Goals as goal
 
 pub respond-requires : goal.respond-requires
 respond-requires c =
-    let s = c in
-    record { line_value = s.requires; roomy = roomy_in _ s.requires _ _ _ (search rules) (search rules) (search rules) }
+    record { line_value = c.requires; roomy = roomy_in _ c.requires _ _ _ (search rules) (search rules) (search rules) }

@@ -4,13 +4,11 @@ use Rattle.format.proofs.Judged.{well}
 use Rattle.hexlines.proofs.respond_own.Goals as goal
 
 pub field-requires : goal.field-requires
-field-requires c = let s = c in let f = well s.args.line.now s.requires in (omega arith, omega (arith, f.long), f.digits)
+field-requires c = let f = well c.args.line.now c.requires in (omega arith, omega (arith, f.long), f.digits)
 
 pub field-requires-2 : goal.field-requires-2
-field-requires-2 c = let s = c in let f = well s.args.line.now s.requires in (omega arith, omega (arith, f.long), f.digits)
+field-requires-2 c = let f = well c.args.line.now c.requires in (omega arith, omega (arith, f.long), f.digits)
 
 pub respond_square-requires : goal.respond_square-requires
 respond_square-requires c =
-    let m = c in
-    let s = m in
-    (s.requires, omega (arith, m.most.ensures, m.field-2.ensures.0, m.field.ensures.0))
+    (c.requires, omega (arith, c.most.ensures, c.field-2.ensures.0, c.field.ensures.0))

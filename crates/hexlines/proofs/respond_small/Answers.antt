@@ -5,5 +5,4 @@ use Rattle.hexlines.proofs.respond_small.Goals as goal
 
 pub respond-requires : goal.respond-requires
 respond-requires c =
-    let s = c in
-    record { line_value = s.requires.0; roomy = roomy_small _ s.requires.0 _ _ _ (search rules) (search rules) (search rules) s.requires.1 }
+    record { line_value = c.requires.0; roomy = roomy_small _ c.requires.0 _ _ _ (search rules) (search rules) (search rules) c.requires.1 }

@@ -13,52 +13,52 @@ use Rattle.lines.proofs.judge.Goals as goal
 use Rattle.lines.proofs.judge.Goals.{After-beyond, Else-bad_side, Else-beyond, Else-too_short}
 
 -- the tests that failed on the way
-one-failed : (c : Else-bad_side) → bad_side c.args.n ≡ false
-one-failed c = sym c.bad_side.ensures ∙ c.if-bad_side.false
+one_failed : (c : Else-bad_side) → bad_side c.args.n ≡ false
+one_failed c = sym c.bad_side.ensures ∙ c.if-bad_side.false
 
-two-failed : (c : Else-too_short) → let a = c.args in too_short a.n a.held a.work ≡ false
-two-failed c = sym c.too_short.ensures ∙ c.if-too_short.false
+two_failed : (c : Else-too_short) → let a = c.args in too_short a.n a.held a.work ≡ false
+two_failed c = sym c.too_short.ensures ∙ c.if-too_short.false
 
 -- the test of d, at the d that was given
-far-is : (c : After-beyond) → c.beyond.result ≡ beyond_of farthest c.args.d
-far-is c = c.beyond.ensures ∙ ap (beyond_of farthest) (to_z-of_z c.ranges.d)
+far_is : (c : After-beyond) → c.beyond.result ≡ beyond_of farthest c.args.d
+far_is c = c.beyond.ensures ∙ ap (beyond_of farthest) (to_z-of_z c.ranges.d)
 
-four-failed : (c : Else-beyond) → beyond_of farthest c.args.d ≡ false
-four-failed c = sym (far-is c.before) ∙ c.if-beyond.false
+four_failed : (c : Else-beyond) → beyond_of farthest c.args.d ≡ false
+four_failed c = sym (far_is c.before) ∙ c.if-beyond.false
 
 pub returns-then-bad_side : goal.returns-then-bad_side
 unfolding judged_by
 returns-then-bad_side c = rw (sym c.bad_side.ensures ∙ c.if-bad_side.true) refl
 
 pub too_short-requires : goal.too_short-requires
-too_short-requires c = (side_good (one-failed c)).1
+too_short-requires c = (side_good (one_failed c)).1
 
 pub returns-then-too_short : goal.returns-then-too_short
 unfolding judged_by
-returns-then-too_short c = rw (one-failed c.before.before, sym c.too_short.ensures ∙ c.if-too_short.true) refl
+returns-then-too_short c = rw (one_failed c.before.before, sym c.too_short.ensures ∙ c.if-too_short.true) refl
 
 pub returns-then-beyond : goal.returns-then-beyond
 unfolding judged_by
-returns-then-beyond c = rw (one-failed c.before.before.before.before, two-failed c.before.before, sym (far-is c.before) ∙ c.if-beyond.true) refl
+returns-then-beyond c = rw (one_failed c.before.before.before.before, two_failed c.before.before, sym (far_is c.before) ∙ c.if-beyond.true) refl
 
 pub returns-then-kernel-gt2 : goal.returns-then-kernel-gt2
 unfolding judged_by bad_kernel
 returns-then-kernel-gt2 c =
-    rw (one-failed c.before.before.before.before.before, two-failed c.before.before.before, four-failed c.before, lt-ltb _ _ c.if-kernel-gt2.true) refl
+    rw (one_failed c.before.before.before.before.before, two_failed c.before.before.before, four_failed c.before, lt-ltb _ _ c.if-kernel-gt2.true) refl
 
 -- the line has n places
 long : (c : Else-too_short) → c.args.n ≤ c.args.held
 unfolding too_short
-long c = short_good (or_false (short c.args.held c.args.n) _ (two-failed c)).0
+long c = short_good (or_false (short c.args.held c.args.n) _ (two_failed c)).0
 
 pub returns-then-applies : goal.returns-then-applies
 unfolding judged_by bad_kernel
 returns-then-applies c =
-    rw (one-failed c.before.before.before.before.before.before, two-failed c.before.before.before.before, four-failed c.before.before, le-ltb _ _ c.if-kernel-gt2.false, c.if-applies.true) refl
+    rw (one_failed c.before.before.before.before.before.before, two_failed c.before.before.before.before, four_failed c.before.before, le-ltb _ _ c.if-kernel-gt2.false, c.if-applies.true) refl
 
 pub scanned-requires : goal.scanned-requires
 scanned-requires c = (
-  (side_good (one-failed c.before.before.before.before.before.before)).1,
+  (side_good (one_failed c.before.before.before.before.before.before)).1,
   omega arith,
   omega (arith, long c.before.before.before.before, c.requires),
   record { from = le_z_yes tt; to = le_z_yes tt },
@@ -67,5 +67,5 @@ scanned-requires c = (
 pub returns : goal.returns
 unfolding judged_by bad_kernel
 returns c =
-    rw (one-failed c.before.before.before.before.before.before.before, two-failed c.before.before.before.before.before, four-failed c.before.before.before, le-ltb _ _ c.if-kernel-gt2.false, c.if-applies.false)
+    rw (one_failed c.before.before.before.before.before.before.before, two_failed c.before.before.before.before.before, four_failed c.before.before.before, le-ltb _ _ c.if-kernel-gt2.false, c.if-applies.false)
     c.scanned.ensures

@@ -54,20 +54,20 @@ module _ (s : Start) where
       place k = omega arith
 
 -- ---- the move that is made, its f and its start, read back
-d-is : (c : After-wide) → to_z w64 (of_z w64 c.wide.result) ≡ c.before.args.d
-d-is c = read_back w64 _ c.wide.type_inv ∙ c.wide.ensures ∙ to_z-of_z c.before.ranges.d
+d_is : (c : After-wide) → to_z w64 (of_z w64 c.wide.result) ≡ c.before.args.d
+d_is c = read_back w64 _ c.wide.type_inv ∙ c.wide.ensures ∙ to_z-of_z c.before.ranges.d
 
-made-is : (c : After-held_of-move_made) → to_z w64 (of_z w64 c.held_of-move_made.result) ≡ made c.before.before
-made-is c = let s = c.before.before in read_back w64 _ c.held_of-move_made.type_inv ∙ c.held_of-move_made.ensures.0 ∙ ap (held (β s) (n s)) (d-is c.before)
+made_is : (c : After-held_of-move_made) → to_z w64 (of_z w64 c.held_of-move_made.result) ≡ made c.before.before
+made_is c = let s = c.before.before in read_back w64 _ c.held_of-move_made.type_inv ∙ c.held_of-move_made.ensures.0 ∙ ap (held (β s) (n s)) (d_is c.before)
 
-made-size : (c : After-held_of-move_made) → nat_abs (to_z w64 (of_z w64 c.held_of-move_made.result)) ≤ 1099511627776
-made-size c = rw (read_back w64 _ c.held_of-move_made.type_inv) (omega (arith, c.held_of-move_made.ensures.1))
+made_size : (c : After-held_of-move_made) → nat_abs (to_z w64 (of_z w64 c.held_of-move_made.result)) ≤ 1099511627776
+made_size c = rw (read_back w64 _ c.held_of-move_made.type_inv) (omega (arith, c.held_of-move_made.ensures.1))
 
-f-is : (c : After-fraction_part-f) → to_z w32 (of_z w32 c.fraction_part-f.result) ≡ pos (fraction (made c.before.before.before))
-f-is c = read_back w32 _ c.fraction_part-f.type_inv ∙ c.fraction_part-f.ensures ∙ ap (λ x. pos (fraction x)) (made-is c.before)
+f_is : (c : After-fraction_part-f) → to_z w32 (of_z w32 c.fraction_part-f.result) ≡ pos (fraction (made c.before.before.before))
+f_is c = read_back w32 _ c.fraction_part-f.type_inv ∙ c.fraction_part-f.ensures ∙ ap (λ x. pos (fraction x)) (made_is c.before)
 
 start_is : (c : After-start_of-start) → let s = c.before.before.before.before in c.start_of-start.result ≡ start_at (β s) (n s) (made s)
-start_is c = let s = c.before.before.before.before in c.start_of-start.ensures.0 ∙ ap (start_at (β s) (n s)) (made-is c.before.before)
+start_is c = let s = c.before.before.before.before in c.start_of-start.ensures.0 ∙ ap (start_at (β s) (n s)) (made_is c.before.before)
 
 -- ---- the part of the row, and what has to be set in of it
 module _ (c : After-loaded_of-loaded) where
@@ -98,13 +98,13 @@ module _ (c : After-set_in) where
   set = rw (loaded_is loaded) at c.set_in.ensures
 
 pub held_of-move_made-requires : goal.held_of-move_made-requires
-held_of-move_made-requires c = (c.before.requires.movable.few, rw (d-is c) (omega (arith, c.before.requires.movable.near)))
+held_of-move_made-requires c = (c.before.requires.movable.few, rw (d_is c) (omega (arith, c.before.requires.movable.near)))
 
 pub fraction_part-f-requires : goal.fraction_part-f-requires
-fraction_part-f-requires c = made-size c
+fraction_part-f-requires c = made_size c
 
 pub start_of-start-requires : goal.start_of-start-requires
-start_of-start-requires c = let s = c.before.before.before in (s.requires.movable.some, s.requires.movable.few, made-size c.before)
+start_of-start-requires c = let s = c.before.before.before in (s.requires.movable.some, s.requires.movable.few, made_size c.before)
 
 pub window_of-window-requires : goal.window_of-window-requires
 window_of-window-requires c = let s = c.before.before.before.before in (s.requires.movable.some, s.requires.movable.few, c.start_of-start.ensures.1)
@@ -121,7 +121,7 @@ treat-requires c =
     let l = loaded r in
     let s = start l in
     let w = covers l in
-    rw (row_length r, f-is l.before.before.before) (record {
+    rw (row_length r, f_is l.before.before.before) (record {
       row_len_bound = (
         omega (arith, places_few (β s) (n s), s.requires.movable.few),
         omega (arith, w.low, w.high, s.requires.movable.some),
@@ -161,7 +161,7 @@ returns c =
     let r = c.before.before.before.before.before.before.before in
     let p = loaded r in
     let s = start p in
-    let f = f-is p.before.before.before in record {
+    let f = f_is p.before.before.before in record {
       value = ap (lt_z (pos 0)) f ∙ held-interpolated (β s) (n s) s.args.d;
       res_after = c.store_line.ensures
           ∙ ap₂ (λ q x. put 0 1 (rolled q x) (n s) s.args.res.now) (start_is p.before.before) (c.treat.ensures ∙ ap (λ z. weighed_part (κ s) z (window p) (prepared (κ s) (row r))) f)

@@ -22,12 +22,12 @@ module _ (c : After-judge-verdict) where
   unfolding judged
   verdict_is = rw (to_z-of_z s.ranges.d, c.bad_background-applies.ensures, c.least-held.ensures) at c.judge-verdict.ensures
 
-accepted-is : (c : In-Accepted) → verdict c.before ≡ Accepted
-accepted-is c = sym (verdict_is c.before) ∙ c.in-Accepted.is
+accepted_is : (c : In-Accepted) → verdict c.before ≡ Accepted
+accepted_is c = sym (verdict_is c.before) ∙ c.in-Accepted.is
 
 movable : (c : In-Accepted) → let a = c.args in
     Movable a.n a.kernel a.d a.border a.line.now (length a.res.now) (length a.work.now)
-movable c = accepted _ _ _ _ _ _ _ (accepted-is c)
+movable c = accepted _ _ _ _ _ _ _ (accepted_is c)
 
 pub judge-verdict-requires : goal.judge-verdict-requires
 judge-verdict-requires c = omega (arith, c.least-held.ensures)
@@ -49,4 +49,4 @@ pub returns-in-Accepted : goal.returns-in-Accepted
 returns-in-Accepted c =
     let a = c.args in
     let e = rw (to_z-of_z c.ranges.d) at c.move_cleared-interpolated.ensures in
-    line-moved a.n a.kernel a.d a.border a.line.now a.res.now a.work.now _ _ _ _ (accepted-is c.before.before.before.before.before.before) e.value c.extremes_of-extremes.ensures e.res_after e.work_after
+    line-moved a.n a.kernel a.d a.border a.line.now a.res.now a.work.now _ _ _ _ (accepted_is c.before.before.before.before.before.before) e.value c.extremes_of-extremes.ensures e.res_after e.work_after

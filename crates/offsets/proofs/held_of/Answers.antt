@@ -8,8 +8,8 @@ use Rattle.offsets.specs.Moves.{move_of}
 use Rattle.offsets.proofs.held_of.Goals as goal
 use Rattle.offsets.proofs.held_of.Goals.{After-move_of}
 
-d-is : (c : After-move_of) → let a = c.args in to_z w64 (of_z w64 c.move_of.result) ≡ move_of a.moves a.y
-d-is c = read_back w64 _ c.move_of.type_inv ∙ c.move_of.ensures.0
+d_is : (c : After-move_of) → let a = c.args in to_z w64 (of_z w64 c.move_of.result) ≡ move_of a.moves a.y
+d_is c = read_back w64 _ c.move_of.type_inv ∙ c.move_of.ensures.0
 
 pub held_of-requires : goal.held_of-requires
 held_of-requires c = (c.requires.0, rw (read_back w64 _ c.move_of.type_inv) c.move_of.ensures.1)
@@ -17,4 +17,4 @@ held_of-requires c = (c.requires.0, rw (read_back w64 _ c.move_of.type_inv) c.mo
 pub returns : goal.returns
 returns c =
     let a = c.args in
-    rw (read_back w64 _ c.held_of.type_inv) (c.held_of.ensures.0 ∙ ap (held a.border a.n) (d-is c.before), c.held_of.ensures.1)
+    rw (read_back w64 _ c.held_of.type_inv) (c.held_of.ensures.0 ∙ ap (held a.border a.n) (d_is c.before), c.held_of.ensures.1)

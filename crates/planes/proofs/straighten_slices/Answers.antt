@@ -16,11 +16,11 @@ use Rattle.planes.proofs.straighten_slices.Goals as goal
 use Rattle.planes.proofs.straighten_slices.Goals.{After-sweep, After-sweep-2, Start}
 
 -- the shears, read back
-a-is : (s : Start) → to_z w32 (of_z w32 s.args.setting.a) ≡ s.args.setting.a
-a-is s = to_z-of_z {w = w32} (sfits-nat_abs s.args.setting.a s.requires.workable.setting.shears.0 (lit< tt))
+a_is : (s : Start) → to_z w32 (of_z w32 s.args.setting.a) ≡ s.args.setting.a
+a_is s = to_z-of_z {w = w32} (sfits-nat_abs s.args.setting.a s.requires.workable.setting.shears.0 (lit< tt))
 
-b-is : (s : Start) → to_z w32 (of_z w32 s.args.setting.b) ≡ s.args.setting.b
-b-is s = to_z-of_z {w = w32} (sfits-nat_abs s.args.setting.b s.requires.workable.setting.shears.1 (lit< tt))
+b_is : (s : Start) → to_z w32 (of_z w32 s.args.setting.b) ≡ s.args.setting.b
+b_is s = to_z-of_z {w = w32} (sfits-nat_abs s.args.setting.b s.requires.workable.setting.shears.1 (lit< tt))
 
 -- how far rows and columns move
 abbrev rows : Start → ℕ → ℤ
@@ -35,7 +35,7 @@ start1 c = c.before.before.before.before.before
 
 once : (c : After-sweep)
     → let a = (start1 c).args in Swept a.setting.border (kernel_of a.setting.kernel) (λ i. rows (start1 c)) a.s a.list.now c.sweep.new.list
-once c = rw (a-is (start1 c)) at c.sweep.ensures
+once c = rw (a_is (start1 c)) at c.sweep.ensures
 
 abbrev first2 : After-sweep-2 → After-sweep
 first2 c = c.before.before.before.before.before.before
@@ -49,12 +49,12 @@ twice : (c : After-sweep-2)
 twice c =
     let a = (start2 c).args in
     subst (λ (b : ℤ). Swept a.setting.border (kernel_of a.setting.kernel) (λ i. shear b a.setting.cx) (transposed a.s) (first2 c).sweep.new.list c.sweep-2.new.list)
-    (b-is (start2 c)) (rw c.transposed.ensures at c.sweep-2.ensures)
+    (b_is (start2 c)) (rw c.transposed.ensures at c.sweep-2.ensures)
 
 pub sweep-requires : goal.sweep-requires
 sweep-requires c =
     let s = c.before.before.before.before in
-    rw (a-is s) record {
+    rw (a_is s) record {
       sweepable = rows_sweepable s.requires.workable;
       slices_within = first_range s.args.s s.args.list.now s.requires.slices_within;
     }
@@ -65,7 +65,7 @@ sweep-requires-2 c =
     let s = start1 p in
     let a = s.args in
     let f = s.requires.workable in
-    rw (c.transposed.ensures, b-is s, p.sweep.auto.list, p.sweep.auto.work)
+    rw (c.transposed.ensures, b_is s, p.sweep.auto.list, p.sweep.auto.work)
     record {
       sweepable = columns_sweepable f;
       slices_within = second_range a.setting.border (kernel_of a.setting.kernel) (rows s) (columns s) a.s a.list.now p.sweep.new.list f.columns.0 f.rows.0 (once p) f.setting.background s.requires.slices_within;
@@ -78,7 +78,7 @@ sweep-requires-3 c =
     let s = start1 p in
     let a = s.args in
     let f = s.requires.workable in
-    rw (a-is s, q.sweep-2.auto.list, p.sweep.auto.list, q.sweep-2.auto.work, p.sweep.auto.work)
+    rw (a_is s, q.sweep-2.auto.list, p.sweep.auto.list, q.sweep-2.auto.work, p.sweep.auto.work)
     record {
       sweepable = rows_sweepable f;
       slices_within = third_range a.setting.border (kernel_of a.setting.kernel) (rows s) (columns s) a.s a.list.now p.sweep.new.list f.columns.0 f.rows.0 (once p) q.sweep-2.new.list (twice q) f.setting.background s.requires.slices_within;
@@ -92,4 +92,4 @@ returns c =
     let a = s.args in
     let f = s.requires.workable in
     three_passes a.setting.border (kernel_of a.setting.kernel) (rows s) (columns s) a.s a.list.now p.sweep.new.list f.columns.0 f.rows.0 (once p) q.sweep-2.new.list (twice q) _
-    (rw (a-is s) at c.sweep-3.ensures)
+    (rw (a_is s) at c.sweep-3.ensures)

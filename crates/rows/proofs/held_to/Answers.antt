@@ -17,8 +17,8 @@ end s = times_sized (num_sized 4096 tt) (nat_sized 1024 s.requires.0 tt) tt
 product : (n : ℕ) → pos 4096 *ℤ pos n ≡ pos (4096 * n)
 product = simp bridge (omega arith)
 
-far-is : (c : After-is_far) → c.is_far.result ≡ far c.args.n c.args.d
-far-is c = c.is_far.ensures ∙ ap (far c.args.n) (to_z-of_z c.ranges.d)
+far_is : (c : After-is_far) → c.is_far.result ≡ far c.args.n c.args.d
+far_is c = c.is_far.ensures ∙ ap (far c.args.n) (to_z-of_z c.ranges.d)
 
 pub is_far-requires : goal.is_far-requires
 is_far-requires c = rw (to_z-of_z c.ranges.d) (c.requires.0, omega (arith, c.requires.1))
@@ -28,8 +28,8 @@ overflow_mul-result c = fit 0 (end c.before.before)
 
 pub returns-then-is_far : goal.returns-then-is_far
 returns-then-is_far c =
-    rw (reads (end c.before.before)) (rw (sym (far-is c.before) ∙ c.if-is_far.true) (product c.args.n), (end c.before.before).size)
+    rw (reads (end c.before.before)) (rw (sym (far_is c.before) ∙ c.if-is_far.true) (product c.args.n), (end c.before.before).size)
 
 pub returns : goal.returns
 returns c =
-    rw (to_z-of_z c.ranges.d) (rw (sym (far-is c.before) ∙ c.if-is_far.false) refl, c.requires.1)
+    rw (to_z-of_z c.ranges.d) (rw (sym (far_is c.before) ∙ c.if-is_far.false) refl, c.requires.1)

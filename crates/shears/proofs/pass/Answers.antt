@@ -26,9 +26,9 @@ abbrev moving : Start → ℕ → List ℤ → ℕ → ℤ
 moving s = moved_at s.args.border (kernel_of s.args.kernel) (move_of s.args.moves)
 
 -- a line to come is as it was
-ahead-size : (l : At-loop-y) (z k : ℕ) → l.loop-y.y ≤ z → z < l.args.lines → k < l.args.n
+ahead_size : (l : At-loop-y) (z k : ℕ) → l.loop-y.y ≤ z → z < l.args.lines → k < l.args.n
     → nat_abs (get_or l.loop-y.picture (z * l.args.across + k * l.args.along) (pos 0)) ≤ 294912
-ahead-size l z k h m i =
+ahead_size l z k h m i =
     let a = l.args in
     rw (l.loop-y.invariant.3, ahead a.n a.lines a.along a.across _ _ l.requires.lines l.loop-y.y a.picture.now z h m k i) (l.requires.lines_within z k m i)
 
@@ -47,7 +47,7 @@ move_four-requires c =
     rw (c.loop-y.invariant.1, c.loop-y.invariant.2) record {
       movable = fewer (c.loop-y.y + 4) (omega arith) c.requires.movable;
       lines = lines_within (omega arith) (omega arith) c.requires.lines;
-      by_index = λ (i k : ℕ) (m : i < 4) (h : k < c.args.n). ahead-size c.before.before.before.before (c.loop-y.y + i) k (omega arith) (omega arith) h;
+      by_index = λ (i k : ℕ) (m : i < 4) (h : k < c.args.n). ahead_size c.before.before.before.before (c.loop-y.y + i) k (omega arith) (omega arith) h;
     }
 
 pub loop-y-preserved-then-y-lines : goal.loop-y-preserved-then-y-lines
@@ -76,7 +76,7 @@ move_line-requires c =
     rw m record {
       le_n = (c.requires.movable.some, c.requires.movable.short, c.places_of-m.ensures, c.requires.movable.known, c.requires.movable.slight, omega (arith, c.requires.movable.few), c.requires.movable.plain);
       by_index = λ (k : ℕ) (h : k < a.n). rw c.loop-y.invariant.1 (c.requires.lines.inside c.loop-y.y k (omega arith) h);
-      by_index_2 = λ (k : ℕ) (h : k < a.n). ahead-size c.before.before.before.before c.loop-y.y k (omega arith) (omega arith) h;
+      by_index_2 = λ (k : ℕ) (h : k < a.n). ahead_size c.before.before.before.before c.loop-y.y k (omega arith) (omega arith) h;
     }
 
 pub loop-y-preserved : goal.loop-y-preserved

@@ -12,10 +12,10 @@ use Rattle.shears.proofs.treat_four.Goals as goal
 use Rattle.shears.proofs.treat_four.Goals.{After-prepare_four}
 
 -- the rows prepared, by the places that a line takes
-prepared-are : (c : After-prepare_four)
+prepared_are : (c : After-prepare_four)
     →
     FourTreated (places c.args.border c.args.n) (λ (i : ℕ). prepared (kernel_of c.args.kernel)) c.args.work.now c.prepare_four.new.work
-prepared-are c =
+prepared_are c =
     subst (λ (n : ℕ). FourTreated n (λ (i : ℕ). prepared (kernel_of c.args.kernel)) c.args.work.now c.prepare_four.new.work) c.places_of.ensures c.prepare_four.ensures
 
 pub places_of-requires : goal.places_of-requires
@@ -41,9 +41,9 @@ weigh_four-requires c =
     rw v.auto.work
     record {
       movable = c.requires.movable;
-      lo_lt_hi = (c.requires.lo_lt_hi.0, c.requires.lo_lt_hi.1, prepared-rows (kernel_of a.kernel) (places a.border a.n) a.part a.work.now v.new.work c.requires.movable.roomy c.requires.lo_lt_hi.0 c.requires.lo_lt_hi.1 c.requires.lo_lt_hi.2 (prepared-are c.before.before));
+      lo_lt_hi = (c.requires.lo_lt_hi.0, c.requires.lo_lt_hi.1, prepared-rows (kernel_of a.kernel) (places a.border a.n) a.part a.work.now v.new.work c.requires.movable.roomy c.requires.lo_lt_hi.0 c.requires.lo_lt_hi.1 c.requires.lo_lt_hi.2 (prepared_are c.before.before));
     }
 
 pub returns : goal.returns
 returns c =
-    λ (i : ℕ) (l : i < 4). rw (prepared-are c.before.before.before.before i l) at (c.weigh_four.ensures i l)
+    λ (i : ℕ) (l : i < 4). rw (prepared_are c.before.before.before.before i l) at (c.weigh_four.ensures i l)
