@@ -103,14 +103,13 @@ static inline const char *straightener_words(uint32_t number)
         return "the kernel must be 0 (linear), 1 (Keys) or 2 (cubic spline)";
     case STRAIGHTENER_REFUSED_SAMPLE:
         return "a sample, or the largest sample size given for a forecast, lies beyond its range, which is 32,767 "
-               "units to either side of 0 for straightening, 294,912 for a single line, and 1,048,576 for readings, "
-               "for levelling with a picture and for quarter moves";
+               "units to either side of 0 for straightening, 294,912 for a single line, and 1,048,576 for readings and "
+               "for levelling with a picture";
     case STRAIGHTENER_REFUSED_POINT:
         return "a point lies outside the picture, or a place beyond its line, both counted from 0; for levelling "
                "without a picture, coordinates must be from 0 to 1,023";
     case STRAIGHTENER_REFUSED_SLOPE:
-        return "the second point must lie to the right of the first, and no steeper than 45 degrees from it; a quarter "
-               "move first serves every other direction, but two points in one place have none";
+        return "the second point must lie to the right of the first, and no steeper than 45 degrees from it";
     case STRAIGHTENER_REFUSED_LINE:
         return "the line must be upper-case hexadecimal digits and nothing else: 22, then 2 for each of its "
                "width x height greys, at most 4,096 greys";

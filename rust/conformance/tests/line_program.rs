@@ -190,8 +190,8 @@ fn run_on(input: impl Into<Stdio>, output: impl Into<Stdio>) -> Output {
     child.expect("the line program starts").wait_with_output().expect("the program ends")
 }
 
-/// The one line that the program writes to standard error where its input or its output failed. It has no
-/// exit status to set, so it ends as ever.
+/// The one line that the program writes to standard error where its input or its output failed. It ends with
+/// status 0 all the same.
 fn complaint(output: &Output) -> String {
     assert!(output.status.success());
     let text = String::from_utf8(output.stderr.clone()).expect("text");

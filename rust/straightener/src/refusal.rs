@@ -141,8 +141,7 @@ refusals! {
          a picture, coordinates must be from 0 to 1,023"
 
         8 Slope STRAIGHTENER_REFUSED_SLOPE
-        "the second point must lie to the right of the first, and no steeper than 45 degrees from it; a quarter \
-         move first serves every other direction, but two points in one place have none"
+        "the second point must lie to the right of the first, and no steeper than 45 degrees from it"
 
         9 Line STRAIGHTENER_REFUSED_LINE
         "the line must be upper-case hexadecimal digits and nothing else: 22, then 2 for each of its \
@@ -166,8 +165,8 @@ refusals! {
     with_a_place:
         6 Sample in_a_block BlockSample "the first such sample in row order; 0 for a line" STRAIGHTENER_REFUSED_SAMPLE
         "a sample, or the largest sample size given for a forecast, lies beyond its range, which is 32,767 \
-         units to either side of 0 for straightening, 294,912 for a single line, and 1,048,576 for readings, \
-         for levelling with a picture and for quarter moves"
+         units to either side of 0 for straightening, 294,912 for a single line, and 1,048,576 for readings and \
+         for levelling with a picture"
 
         15 Threshold "the leftmost such sample" STRAIGHTENER_REFUSED_THRESHOLD
         "a sample on the line between the two points is below the threshold: the points are not on one \

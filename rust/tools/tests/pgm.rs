@@ -142,7 +142,7 @@ fn complaints_say_what_is_wrong() {
     assert!(complaint("straighten keys 80 background -1", b"").contains("-1 is not a grey from 0 to 255"));
     assert!(complaint("picture", b"0900000000\n").contains("number 9"));
     assert!(complaint("level 0 0 5 50", b"").contains("45 degrees"));
-    assert!(complaint("level any 5 50 5 50", b"").contains("two points in one place"));
+    assert!(complaint("level any 5 50 5 50", b"").contains("45 degrees"));
     assert!(complaint("level any 0 0 1024 0", b"").contains("from 0 to 1,023"));
     for number in ["8", "-1", "clockwise"] {
         let words = format!("turn {number}");
