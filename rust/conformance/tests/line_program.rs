@@ -9,7 +9,6 @@ use std::fs::{self, File};
 use std::io::{Read, Write};
 use std::os::fd::OwnedFd;
 use std::os::unix::net::UnixStream;
-use std::os::unix::process::ExitStatusExt;
 use std::process::{Child, ChildStdin, Command, Output, Stdio};
 use std::thread;
 
@@ -261,7 +260,8 @@ fn an_output_that_does_not_wait_is_told() {
     assert!(taken.len() < answers.len() && answers.starts_with(&taken));
 }
 
-/// Nobody reads the answers: the program is ended by the system, as every program is that writes to such a pipe.
+/// Nobody reads the answers: the program ends, and tells it like every output that cannot be written. The kit keeps
+/// the system's signal for such a pipe from its programs.
 #[test]
 fn an_output_that_nobody_reads_ends_the_program() {
     let mut running = running();
@@ -271,5 +271,6 @@ fn an_output_that_nobody_reads_ends_the_program() {
     // over until this one takes no more, which a million lines outlast by far.
     let _ = (0..1_000_000).try_for_each(|_| input.write_all(b"000000000100010000000080\n"));
     drop(input);
-    assert_eq!(running.wait().expect("the program ends").signal(), Some(13));
+    let output = running.wait_with_output().expect("the program ends");
+    assert!(complaint(&output).contains("standard output could not be written"));
 }
