@@ -35,7 +35,7 @@ set kernel cx cy A B = record { kernel = kernel; cx = cx; cy = cy; a = A; b = B;
 abbrev still : Setting
 still = set 0 0 0 (pos 0) (pos 0)
 
--- a picture of W-as-H zeros, with a result and work of just the places that they need
+-- a picture of W·H zeros, with a result and work of just the places that they need
 abbrev sized : ℕ → ℕ → Verdict
 sized W H = judged W H still (replicate (W * H) (pos 0)) (W * H) (12 * max W H)
 
@@ -90,7 +90,7 @@ kernels :
 unfolding judged_on bad_size bad_side too_short short bad_centre bad_shears bad_kernel bad_background first_bad first_from beyond_of
 kernels = refl
 
--- the first sample beyond the range is named, by its row and its column; samples past the W-as-H places are not read
+-- the first sample beyond the range is named, by its row and its column; samples past the W·H places are not read
 samples :
     held (pos 32767 ∷ pos 0 ∷ negsuc 32766 ∷ pos 0 ∷ pos 0 ∷ pos 32767 ∷ pos 32768 ∷ [])
     ∷ held (pos 32767 ∷ pos 0 ∷ pos 0 ∷ pos 0 ∷ pos 0 ∷ pos 32768 ∷ negsuc 32767 ∷ [])

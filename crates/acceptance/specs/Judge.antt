@@ -15,7 +15,7 @@ range = 32767
 unfoldable pub work_places : ℕ → ℕ → ℕ
 work_places W H = cond (bad_size W H) 0 (12 * max W H)
 
--- 2: under W-as-H places for the picture or the result, or under 12·max(W, H) for work
+-- 2: under W·H places for the picture or the result, or under 12·max(W, H) for work
 unfoldable pub too_short : ℕ → ℕ → ℕ → ℕ → ℕ → Bool
 too_short W H picture result work = short picture (W * H) || (short result (W * H) || short work (12 * max W H))
 

@@ -1,8 +1,8 @@
 -- A straight line of signed arithmetic, as the machine runs it, against the integers that it stands for.
--- Each need that the borrow checker leaves of such code speaks of what the machine reads back from the bits of each step,
+-- Each goal that the borrow checker leaves of such code speaks of what the machine reads back from the bits of each step,
 -- `to_z w (of_z w (to_z w (of_z w a) +ℤ ..))`. The author writes the code once, as `Code`, and shows the ranges of its steps at the plain
 -- integers: by sizes alone (`Sized`, at the end of the file), or by a statement that `Bridge` proves (`Ranges`). Then `need k` or `fit k`
--- is the answer to the k-th need, and `value` or `reads` says what the code returns.
+-- is the answer to the k-th goal, and `value` or `reads` says what the code returns.
 -- Where the code has a value twice, `Code` writes it twice, and asks of it twice: leave that number out.
 -- Proofs with it: `whole_part` (sizes alone), `fraction_part` (an equation bounds it; a cast), `floor_remainder` (a remainder, a branch).
 -- Assumes nothing.
@@ -235,12 +235,12 @@ answers {w} (cast from a) ts us g p =
     answers a (SFits w (plain a) & ts) (SFits w (to_z from (run a)) & us)
     (λ q. (subst (SFits w) (sym (read a (SFits w (plain a) & ts) p).0) q.0, g q.1)) p
 
--- the k-th need, counted from 0 in the order of the source
+-- the answer to the k-th goal, counted from 0 in the order of the source
 pub need : {w : Width} (k : ℕ) (e : Code w) → Ranges e → At k (asked e done)
 need k e p = at k (asked e done) (answers e done done (λ t. t) p)
 
 -- ---- a step or two, in a line: ranges from bounds on sizes alone. Each bound is a numeral, and `tt` shows that it is in range:
---     fit 0 (times_sized (arg_sized 4096 c.fits.a h) (nat_sized 1024 h' tt) tt)
+--     fit 0 (times_sized (arg_sized 4096 c.ranges.a h) (nat_sized 1024 h' tt) tt)
 -- says that a·(k as i64) fits, of h : nat_abs a ≤ 4096 and h' : k ≤ 1024, and `reads` of the same that it is the product
 pub record Sized {w : Width} (e : Code w) (n : ℕ) : Type 0 where
   pub in_range : Ranges e

@@ -4,14 +4,14 @@
 --     Ring       identities of polynomials of any degree
 --     Cert       inequalities by certificates, where `Bridge` has too many products
 --     Round      division rounded down, what it leaves over, and division to the nearest, by any positive number:
---                existence (-is), uniqueness (-only), order (-mono), a shift by whole numbers (-shift), a common factor (-scale),
---                the error (-error), exactness (-exact); what `>>`, `/` and `%` are of them
+--                existence (_is), uniqueness (_only), order (_mono), a shift by whole numbers (_shift), a common factor (-scale),
+--                the error (_error), exactness (_exact); what `>>`, `/` and `%` are of them
 --     Divide     division by a numeral inside a statement for `omega`
 --     Sums       finite sums, their bounds, the greatest size, weighted means
 --     Within     |x| ≤ B as two bounds
 --     Move       f and q of a move
 --     Machine    ranges of shifts, quotients and remainders, what tests tell, casts
---     Compute    every need of a straight line of machine arithmetic, from sizes or from its ranges at the plain integers
+--     Compute    every goal of a straight line of machine arithmetic, from sizes or from its ranges at the plain integers
 pub mod Bridge
 pub mod Laws
 pub mod Ring

@@ -39,7 +39,7 @@ shr_narrow m (pos n) p h = record { sfits = (div-lt_iff_lt-mul p).1 h }
 shr_narrow m (negsuc n) p h = record { sfits = (div-lt_iff_lt-mul p).1 h }
 
 -- ---- what a test of two signed numbers tells, as a branch hands it: an equation of the flag. Read its operands back first:
--- `lt-true x y (simp (to_z-of_z, c.fits.x, c.fits.y) at c.if1.taken)`
+-- `lt-true x y (simp (to_z-of_z, c.ranges.x, c.ranges.y) at c.if-x-y.true)`
 pub lt-true : (x y : ℤ) → lt_z x y ≡ true → x <ℤ y
 lt-true x y e = lt_z_yes (subst T (sym e) tt)
 

@@ -1,4 +1,4 @@
--- A moved picture is the picture read through `source` (`moved-through`), and that is a bijection of the places 0 to W-as-H - 1, so that every sample has exactly
+-- A moved picture is the picture read through `source` (`moved-through`), and that is a bijection of the places 0 to W·H - 1, so that every sample has exactly
 -- one place in it (`moved_bijection`). A move does not look at what stands in a picture (`moved-map`), so it moves the places' own numbers alike.
 -- Assumes nothing.
 use Prim.Native.Nat.{ℕ, zero, suc, ◌*◌, ◌-◌, ◌/◌, ◌%◌, ◌≤◌, ◌<◌}

@@ -19,7 +19,7 @@ slices_of W H D zero = record { columns = W; rows = H; slices = D; along = 1; ac
 slices_of W H D (suc zero) = record { columns = W; rows = D; slices = H; along = 1; across = W * H; step = W }
 slices_of W H D (suc (suc plane)) = record { columns = H; rows = D; slices = W; along = W; across = W * H; step = 1 }
 
--- the slice that place p is in, and its row and its column there: p has the depth p / (W-as-H), the row p / W modulo H and the column p modulo W
+-- the slice that place p is in, and its row and its column there: p has the depth p / (W·H), the row p / W modulo H and the column p modulo W
 abbrev pub slice_at : ℕ → ℕ → ℕ → ℕ → ℕ
 slice_at W H zero p = p / (W * H)
 slice_at W H (suc zero) p = p / W % H

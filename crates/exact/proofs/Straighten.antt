@@ -1,4 +1,4 @@
--- The straightened picture and the exact picture as lists of W-as-H numbers, row by row: what a contract cites. Assumes nothing.
+-- The straightened picture and the exact picture as lists of W·H numbers, row by row: what a contract cites. Assumes nothing.
 use mathlib.Core.Path.{◌≡◌, sym, ◌∙◌, subst₂}
 use mathlib.Core.Bool.{Bool, true, false}
 use mathlib.Core.List.{List}

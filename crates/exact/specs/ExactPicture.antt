@@ -22,7 +22,7 @@ pub record ExactPicture (β : Border) (κ : Kernel) (W H : ℕ) (rows columns : 
   pub second : ExactRows β κ H W columns (turned E₁) Q₁ (turned E₂) Q₂
   pub third : ExactRows β κ W H rows E₂ Q₂ E Q
 
--- the same of lists of W-as-H numbers, row by row: E over Q is the exact picture of the samples s
+-- the same of lists of W·H numbers, row by row: E over Q is the exact picture of the samples s
 pub record ExactList (β : Border) (κ : Kernel) (W H : ℕ) (rows columns : ℕ → ℤ) (s E : List ℤ) (Q : ℤ) : Type 0 where
   pub places : length E ≡ W * H
   pub exact : ExactPicture β κ W H rows columns (picture W s) (picture W E) Q

@@ -44,7 +44,7 @@ pub struct Explanation {
 // D³, for the D = 4,096 parts of a sample.
 const CUBE: i64 = 68_719_476_736;
 
-// What a kernel's weighted sum is divided by: typeof.n.D³, and 16 times that for the spline, whose coefficients are in sixteenths of a unit.
+// What a kernel's weighted sum is divided by: n·D³, and 16 times that for the spline, whose coefficients are in sixteenths of a unit.
 fn divisor_of(kernel: u32) -> i64
     requires { kernel ≤ 2 }
     ensures { result ≡ pos (divisor (kernel_of kernel)) }

@@ -26,11 +26,11 @@ cx_in line = field_at line 14
 abbrev pub cy_in : List ℕ → ℕ
 cy_in line = field_at line 18
 
--- W-as-H
+-- W·H
 abbrev pub size_in : List ℕ → ℕ
 size_in line = width_in line * height_in line
 
--- number 9 does not apply: 22 or more digits and nothing else, W-as-H not over 4,096, and 22 + 2·W·H digits
+-- number 9 does not apply: 22 or more digits and nothing else, W·H not over 4,096, and 22 + 2·W·H digits
 unfoldable pub well_formed : List ℕ → Bool
 well_formed line =
     leb 22 (length line)

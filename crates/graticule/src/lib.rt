@@ -91,7 +91,7 @@ fn points_of(x1: i32, y1: i32, x2: i32, y2: i32) -> Points
 }
 
 // The step that levels the line from (x1, y1) to (x2, y2), where no sample on that line is below the threshold. It refuses: 1 a side of 0 or over 1,024;
-// 2 a picture of under W.H places; 6 a sample beyond ±1,048,576, the first by its row and column; 7 a point outside the picture; 8 a line too steep; 15 a
+// 2 a picture of under W·H places; 6 a sample beyond ±1,048,576, the first by its row and column; 7 a point outside the picture; 8 a line too steep; 15 a
 // sample on the line below the threshold, the first by its row and column.
 pub fn level_checked(
     width: usize,

@@ -13,7 +13,7 @@ ghost use Rattle.grid.specs.Four.{laid, FourLoaded, four_stored};
 use moves::Part;
 use settings::Border;
 
-// Four places of `from` to four places of `to`: place p + typeof.i.step + j[i] goes to place q + i·stride, for i from 0 to 3.
+// Four places of `from` to four places of `to`: place p + i·step + j[i] goes to place q + i·stride, for i from 0 to 3.
 fn copy_four(
     from: &[i32],
     p: usize,

@@ -23,7 +23,7 @@ pub struct FourWeights {
     pub w3: i64,
 }
 
-// A row's weight at f: typeof.a.D³ + b·f·D² + c·f²·D + e·f³.
+// A row's weight at f: a·D³ + b·f·D² + c·f²·D + e·f³.
 fn evaluated(row: [i64; 4], f: i64) -> i64
     requires by_index { (j : ℕ) → nat_abs (get_or row j (pos 0)) ≤ 6 }
     requires f_bound { nat_abs f ≤ 4096 }

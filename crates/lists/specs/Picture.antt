@@ -1,4 +1,4 @@
--- Pictures. A picture is a function of the row and the column, of which the rows below H and the columns below W count; a list of W-as-H samples, row by
+-- Pictures. A picture is a function of the row and the column, of which the rows below H and the columns below W count; a list of W·H samples, row by
 -- row, is one by `picture`. Assumes nothing.
 use Rattle.std.specs.Prelude.{List, ℕ, ◌+◌, ◌*◌, ◌/◌, ◌%◌, ◌<◌, ℤ}
 use Rattle.lists.specs.Tab.{tab}

@@ -28,6 +28,6 @@ after_two β κ W H rows columns p = turned (rows_moved β κ H columns (turned 
 abbrev pub straightened : Border → Kernel → ℕ → ℕ → (ℕ → ℤ) → (ℕ → ℤ) → Picture → Picture
 straightened β κ W H rows columns p = rows_moved β κ W rows (after_two β κ W H rows columns p)
 
--- the same of a flat list: the W-as-H samples that the call writes
+-- the same of a flat list: the W·H samples that the call writes
 unfoldable pub straighten : Border → Kernel → ℕ → ℕ → (ℕ → ℤ) → (ℕ → ℤ) → List ℤ → List ℤ
 straighten β κ W H rows columns s = pictured W H (straightened β κ W H rows columns (picture W s))

@@ -40,7 +40,7 @@ use Rattle.pictures.specs.declared.Outcome.{Outcome}
 use Rattle.pictures.specs.Answer.{number_of, row_of, column_of, count_of, smallest_of, largest_of, outcome_of, kernel_in, row_moves, column_moves, third_rows, Answered, AnswerOn}
 use Rattle.pictures.specs.declared.Outcome.TheVariants as variants
 
--- ---- the places of the picture after its first W-as-H are not read
+-- ---- the places of the picture after its first W·H are not read
 module _ (β : Border) (κ : Kernel) (W H : ℕ) (rows columns : ℕ → ℤ) (s : List ℤ) (hW : 0 < W) (hH : 0 < H) where
   places_same : Places W H (λ y x. picture W (take (W * H) s) y x ≡ picture W s y x)
   unfolding picture
@@ -61,7 +61,7 @@ module _ (β : Border) (κ : Kernel) (W H : ℕ) (rows columns : ℕ → ℤ) (s
   pub straighten-length : length (straighten β κ W H rows columns s) ≡ W * H
   straighten-length = ap length (straighten_stages β κ rows columns s hW hH) ∙ rows-pass-length β κ W H rows _
 
--- ---- what stands in the first W-as-H places of the result that an accepted call leaves
+-- ---- what stands in the first W·H places of the result that an accepted call leaves
 module _ {W H : ℕ} {s : Setting} {picture : List ℤ} {places work : ℕ} (f : Fit W H s picture places work) (result result' : List ℤ)
     (done : result' ≡ straighten s.border (kernel_in s) W H (row_moves s) (column_moves s) (take (W * H) picture) ++ drop (W * H) result) where
   pub first-places : take (W * H) result' ≡ straighten s.border (kernel_in s) W H (row_moves s) (column_moves s) picture
@@ -166,7 +166,7 @@ module _ (v : Verdict) (W H : ℕ) (s : Setting) (picture result work : List ℤ
       third : Picture
       third = third_rows W H s picture
 
-      -- the first W-as-H places of the result are the rows of pass 3, one after the other
+      -- the first W·H places of the result are the rows of pass 3, one after the other
       same : (i : ℕ) → i < W * H → third (i / W) (i % W) ≡ line result' i
       same i l = sym (written_at f result result' done i l ∙ straighten_at β κ W H rows columns picture i l)
 
@@ -178,7 +178,7 @@ answered_once {v} {W} {H} {s} a b =
     let w = a.written ∙ sym b.written in
     (a.outcome ∙ ap (outcome_of v W H s) w ∙ sym b.outcome, w, a.cleared ∙ sym b.cleared)
 
--- the figures of an accepted call: the extremes of the first W-as-H samples that it left, and the lines interpolated
+-- the figures of an accepted call: the extremes of the first W·H samples that it left, and the lines interpolated
 abbrev pub Told : ℕ → ℕ → Setting → List ℤ → Outcome → Type 0
 Told W H s result' r =
     (smallest_of r ≡ smallest (line result') (W * H)) × (largest_of r ≡ largest (line result') (W * H)) × (count_of r ≡ count s.border W H (row_moves s) (column_moves s))

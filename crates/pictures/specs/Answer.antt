@@ -67,14 +67,14 @@ third_rows W H s samples = straightened s.border (kernel_in s) W H (row_moves s)
 abbrev pub verdict_of : ℕ → ℕ → Setting → List ℤ → List ℤ → List ℤ → Verdict
 verdict_of W H s picture result work = judged W H s picture (length result) (length work)
 
--- the outcome of a call with the verdict v that leaves `result'`: its extremes are those of the first W-as-H samples there
+-- the outcome of a call with the verdict v that leaves `result'`: its extremes are those of the first W·H samples there
 abbrev pub outcome_of : Verdict → ℕ → ℕ → Setting → List ℤ → Outcome
 outcome_of v W H s result' = outcome_by v (count s.border W H (row_moves s) (column_moves s)) (extremes_of (W * H) result')
 
 -- The full answer of a call with the verdict v that lends `picture`, `result` and `work` as they are at entry: r is its outcome, and result' and
 -- work' are the buffers at exit. Refused, it says its number, row and column, every other figure is 0, and both buffers stay as they were.
 -- Accepted, it counts the lines interpolated, at most 2(H-1) + (W-1), and says the smallest and the largest of the samples written, which are those
--- over the rows of pass 3; the first W-as-H places of the result hold the three passes of the picture, within the ±1,048,576 that every reading
+-- over the rows of pass 3; the first W·H places of the result hold the three passes of the picture, within the ±1,048,576 that every reading
 -- takes; the first 12·max(W, H) places of work hold 0; and the result keeps demand 3, worked out from the picture and the setting as they were
 -- handed in. Under linear, kernel 0, every sample of the result lies in the range of the picture's samples and the background (Q-12), and so do the
 -- smallest and the largest that are told.

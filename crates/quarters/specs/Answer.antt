@@ -42,7 +42,7 @@ pub record Arranged (W H m : ℕ) (picture new : List ℤ) (r : Moved) : Type 0 
   pub samples : take (W * H) new ≡ through (source W H m) (W * H) picture
   pub one_place : Bijection (W * H) (source W H m) (source r.width r.height (inverse_of m))
 
--- A call that lends `picture` and the buffer `old`, and leaves `new` in it. Accepted, the first W-as-H places are the moved picture, and every later one is as it
+-- A call that lends `picture` and the buffer `old`, and leaves `new` in it. Accepted, the first W·H places are the moved picture, and every later one is as it
 -- was; refused, every place is, and the size that is answered is 0 by 0
 pub record PictureMoved (W H m : ℕ) (picture old new : List ℤ) (r : Moved) : Type 0 where
   pub answer : r ≡ moved_answer W H m (min (length picture) (length old)) picture

@@ -61,7 +61,7 @@ abbrev pub Tells : ℕ → ℕ → ℕ → List ℤ → ℕ → Verdict → Type
 Tells width height places picture later v = Figures (lowest width height places picture later) (under_six (first_bad range width height picture)) v
 
 -- ---- greys out and floats out
--- a lent buffer `old` becomes `new`: its first W-as-H places hold f of the samples, and no other place changes; refused, none does
+-- a lent buffer `old` becomes `new`: its first W·H places hold f of the samples, and no other place changes; refused, none does
 pub record Out {A : Type 0} (f : ℤ → A) (width height : ℕ) (picture : List ℤ) (old new : List A) (r : Verdict) : Type 0 where
   pub verdict : r ≡ judged width height (min (length picture) (length old)) picture
   pub figures : Tells width height (min (length picture) (length old)) picture 0 r

@@ -179,7 +179,7 @@ fn fill_floats(picture: &[i32], floats: &mut [f32], n: usize)
 
 // ---- the calls
 
-// Greys out: the first W.H places of `greys` become the greys of the picture. Refusals 1, 2, 6.
+// Greys out: the first W·H places of `greys` become the greys of the picture. Refusals 1, 2, 6.
 pub fn greys_out(width: usize, height: usize, picture: &[i32], greys: &mut [u8]) -> Verdict
     ensures { Out grey_of width height picture.now greys.old greys.new result }
 {
@@ -193,7 +193,7 @@ pub fn greys_out(width: usize, height: usize, picture: &[i32], greys: &mut [u8])
     }
 }
 
-// Floats out: the first W.H places of `floats` become the greys of the picture, with nothing rounded. Refusals 1, 2, 6.
+// Floats out: the first W·H places of `floats` become the greys of the picture, with nothing rounded. Refusals 1, 2, 6.
 pub fn floats_out(width: usize, height: usize, picture: &[i32], floats: &mut [f32]) -> Verdict
     ensures { FloatsOut width height picture.now floats.old floats.new result }
 {

@@ -16,7 +16,7 @@ use Rattle.lists.specs.Line.{Line}
 use Rattle.arith.proofs.Within.{Within, round_within, cancel_within}
 use Rattle.spline.specs.Coefficients.{P, T, run_in, filter}
 
--- ---- errors E with |T·E(j+1) + P-as-E(j)| ≤ T·β, from |E(0)| ≤ A: 8·B·|E(j)| ≤ 11·β·B + 8·A, where B is 3ʲ
+-- ---- errors E with |T·E(j+1) + P·E(j)| ≤ T·β, from |E(0)| ≤ A: 8·B·|E(j)| ≤ 11·β·B + 8·A, where B is 3ʲ
 abbrev Settled : ℤ → ℤ → ℤ → ℤ → Type 0
 Settled β A B E = Within (pos 11 *ℤ β *ℤ B +ℤ pos 8 *ℤ A) (pos 8 *ℤ B *ℤ E)
 

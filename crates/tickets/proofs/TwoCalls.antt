@@ -85,7 +85,7 @@ module _ (t : Ticket) {W H : ℕ} {picture result work : List ℤ} {r : Outcome}
   on_any_ticket =
       record {
         same_size = λ w h. rw (size_same W H t w h) at commit;
-        size_other_lem = λ other size long.
+        size_other = λ other size long.
             answered_once (rw (turned_away_lem W H t picture result work (size_other_lem W H t other), size, long) at commit)
             (refused-answer (Refused 14 0 0) W H t.setting picture result work 14 0 0 refl);
         count = commit.count;

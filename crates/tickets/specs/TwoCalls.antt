@@ -35,7 +35,7 @@ pub record Kept (W H : ℕ) (s : Setting) (asked-picture asked-result asked-work
 -- under 14, unless 1 or 2 applies, and writes nothing; and its count is its own, whatever the ticket tells
 pub record OnAnyTicket (t : Ticket) (W H : ℕ) (picture result work : List ℤ) (r : Outcome) (result' work' : List ℤ) : Type 0 where
   pub same_size : W ≡ t.width → H ≡ t.height → Answer W H t.setting picture result work r result' work'
-  pub size_other_lem : ((W ≡ t.width) × (H ≡ t.height) → ⊥) → bad_size W H ≡ false → too_short W H (length picture) (length result) (length work) ≡ false
+  pub size_other : ((W ≡ t.width) × (H ≡ t.height) → ⊥) → bad_size W H ≡ false → too_short W H (length picture) (length result) (length work) ≡ false
       → (r ≡ outcome.Refused 14 0 0) × (result' ≡ result) × (work' ≡ work)
   pub count : count_of r
       ≡ when_accepted (commit_verdict t W H picture result work) (count t.setting.border W H (row_moves t.setting) (column_moves t.setting)) 0

@@ -118,10 +118,14 @@ fn orders_in_the_documentation_for_rust() {
     }
 }
 
+/// The header calls a buffer `result` where the proved call has `res`: in a contract `result` is what a function answers.
 #[test]
 fn prototypes() {
     let declared = sorted(declarations::prototypes_of_the_header());
-    let proved = declarations::prototypes("crates/exports/src/lib.rt", "pub extern \"C\" fn ");
+    let proved = declarations::prototypes("crates/exports/src/lib.rt", "pub extern \"C\" fn ")
+        .into_iter()
+        .map(|prototype| prototype.replace("*res,", "*result,").replace(" res_len", " result_len"))
+        .collect();
     let for_rust = declarations::prototypes("rust/straightener-sys/src/lib.rs", "pub fn ");
     assert_eq!((sorted(proved), sorted(for_rust)), (declared.clone(), declared));
 }

@@ -1,4 +1,4 @@
--- `readings::greys_out` meets its contract: refused, nothing is written; accepted, there is room for W-as-H places, which are filled. Assumes nothing.
+-- `readings::greys_out` meets its contract: refused, nothing is written; accepted, there is room for W·H places, which are filled. Assumes nothing.
 use mathlib.Core.Path.{sym, ◌∙◌}
 use native.Mathlib.Omega.{arith}
 use Rattle.readings.specs.Sample.{grey_of}
