@@ -14,7 +14,7 @@ import re
 import sys
 
 WORD = re.compile(r'[^\s(){}.;,:@"«»`\[\]\\]+')
-DECLARED = re.compile(r"^(\s*)((?:unfoldable |abbrev |pub |data |record )*)([^\s(){}.;,:@\"«»`\[\]\\]+)((?: \([^()]*\)| \{[^{}]*\})*) : ")
+DECLARED = re.compile(r"^(\s*)((?:unfoldable |abbrev |pub |data |record )*)([^\s(){}.;,:@\"«»`\[\]\\]+)((?: \([^()]*\)| \{[^{}]*\})*) :(?: |$)")
 PLAIN = re.compile(r"[^\W\d_][\w']*", re.UNICODE)
 # Words of plain English that some function of src/ has as its name: beside them a dash joins nothing.
 WORDS = set("after across at down in least most of on one own prior spread there up wide within".split())

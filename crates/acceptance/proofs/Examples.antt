@@ -120,7 +120,7 @@ unfolding judged_on bad_size bad_side too_short short bad_centre bad_shears bad_
 lowest = refl
 
 -- a ticket of another size is 14, after 2 and before 3
-on-another-ticket :
+on_another_ticket :
     judged_on true 3 2 still (replicate 6 (pos 0)) 6 36
     ∷ judged_on true 1025 1 still [] 0 0
     ∷ judged_on true 3 2 still (replicate 6 (pos 0)) 6 35
@@ -128,4 +128,4 @@ on-another-ticket :
     ∷ []
     ≡ Refused 14 0 0 ∷ Refused 1 0 0 ∷ Refused 2 0 0 ∷ Refused 14 0 0 ∷ []
 unfolding judged_on bad_size bad_side too_short short bad_centre bad_shears bad_kernel bad_background first_bad first_from beyond_of
-on-another-ticket = refl
+on_another_ticket = refl

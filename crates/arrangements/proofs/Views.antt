@@ -21,7 +21,7 @@ nine m = stored (moved m (screen 3 3 (map pos (1 ∷ 2 ∷ 3 ∷ 4 ∷ 5 ∷ 6 �
 six : ℕ → List ℤ
 six m = stored (moved m (screen 2 3 (map pos (1 ∷ 2 ∷ 3 ∷ 4 ∷ 5 ∷ 6 ∷ []))))
 
-nine-moved :
+nine_moved :
     (nine 0 ≡ map pos (1 ∷ 2 ∷ 3 ∷ 4 ∷ 5 ∷ 6 ∷ 7 ∷ 8 ∷ 9 ∷ []))
     × (nine 1 ≡ map pos (7 ∷ 4 ∷ 1 ∷ 8 ∷ 5 ∷ 2 ∷ 9 ∷ 6 ∷ 3 ∷ []))
     × (nine 2 ≡ map pos (9 ∷ 8 ∷ 7 ∷ 6 ∷ 5 ∷ 4 ∷ 3 ∷ 2 ∷ 1 ∷ []))
@@ -31,9 +31,9 @@ nine-moved :
     × (nine 6 ≡ map pos (7 ∷ 8 ∷ 9 ∷ 4 ∷ 5 ∷ 6 ∷ 1 ∷ 2 ∷ 3 ∷ []))
     × (nine 7 ≡ map pos (1 ∷ 4 ∷ 7 ∷ 2 ∷ 5 ∷ 8 ∷ 3 ∷ 6 ∷ 9 ∷ []))
 unfolding nine picture pictured tab moved turns
-nine-moved = (refl, refl, refl, refl, refl, refl, refl, refl)
+nine_moved = (refl, refl, refl, refl, refl, refl, refl, refl)
 
-six-moved :
+six_moved :
     (six 0 ≡ map pos (1 ∷ 2 ∷ 3 ∷ 4 ∷ 5 ∷ 6 ∷ []))
     × (six 1 ≡ map pos (5 ∷ 3 ∷ 1 ∷ 6 ∷ 4 ∷ 2 ∷ []))
     × (six 2 ≡ map pos (6 ∷ 5 ∷ 4 ∷ 3 ∷ 2 ∷ 1 ∷ []))
@@ -43,7 +43,7 @@ six-moved :
     × (six 6 ≡ map pos (5 ∷ 6 ∷ 3 ∷ 4 ∷ 1 ∷ 2 ∷ []))
     × (six 7 ≡ map pos (1 ∷ 3 ∷ 5 ∷ 2 ∷ 4 ∷ 6 ∷ []))
 unfolding six picture pictured tab moved turns
-six-moved = (refl, refl, refl, refl, refl, refl, refl, refl)
+six_moved = (refl, refl, refl, refl, refl, refl, refl, refl)
 
 -- ---- eight moves, eight views
 -- what holds of each of the eight moves

@@ -126,11 +126,11 @@ centres : map (λ plane. turned plane (set 0 1 2 (pos 0) (pos 0)) ∷ turned pla
 unfolding judged bad_sides bad_plane too_short short bad_centre bad_shears bad_kernel bad_background first_bad first_from beyond_of
 centres = refl
 
-centres-past :
+centres_past :
     turned 1 (set 0 1 4 (pos 0) (pos 0)) ∷ turned 2 (set 0 3 3 (pos 0) (pos 0)) ∷ turned 2 (set 0 2 4 (pos 0) (pos 0)) ∷ []
     ≡ Refused 3 0 0 ∷ Refused 3 0 0 ∷ Refused 3 0 0 ∷ []
 unfolding judged bad_sides bad_plane too_short short bad_centre bad_shears bad_kernel bad_background first_bad first_from beyond_of
-centres-past = refl
+centres_past = refl
 
 -- the other numbers of a setting are judged in every plane
 settings :

@@ -26,7 +26,7 @@ use Rattle.moves.specs.Border.{framed, far, bordered, grey}
 use Rattle.lists.specs.Picture.{Picture, picture, pictured}
 use Rattle.passes.specs.Picture.{turned, shear, rows_moved, straighten}
 use Rattle.passes.proofs.Stages.{rows_pass, columns_pass}
-use Rattle.passes.proofs.Examples.{keys-three-by-two, keys-four-by-two, spline_two_by_two}
+use Rattle.passes.proofs.Examples.{keys_three_by_two, keys_four_by_two, spline_two_by_two}
 use Rattle.exact.specs.Limits.{limit, Demand3}
 use Rattle.exact.proofs.Demand.{straighten-demand3}
 
@@ -84,7 +84,7 @@ columns = shear (negsuc 2999) 2
 
 keys_close : (v : List ℤ) → Demand3 Wrapped Keys 3 2 rows columns samples v → (i : ℕ) → i < 6
     → nat_abs (line v i -ℤ line (negsuc 12 ∷ pos 43 ∷ pos 18 ∷ negsuc 16 ∷ negsuc 0 ∷ negsuc 59 ∷ []) i) ≤ 4
-keys_close v kept i l = rw keys-three-by-two at (demand3-close Wrapped Keys 3 2 rows columns samples v (lit< tt) (lit< tt) (omega arith) (λ i l. in_range samples tt i) kept i l)
+keys_close v kept i l = rw keys_three_by_two at (demand3-close Wrapped Keys 3 2 rows columns samples v (lit< tt) (lit< tt) (omega arith) (λ i l. in_range samples tt i) kept i l)
 
 -- the picture handed back unturned
 pub unturned_ruled_out : Demand3 Wrapped Keys 3 2 rows columns samples samples → ⊥
@@ -126,7 +126,7 @@ screen_columns = shear (pos 3000) 0
 background_close : (v : List ℤ) → Demand3 (Background (pos 7)) Keys 4 2 screen_rows screen_columns screen v → (i : ℕ) → i < 8
     → nat_abs (line v i -ℤ line (pos 10 ∷ negsuc 0 ∷ pos 5 ∷ pos 7 ∷ negsuc 29 ∷ negsuc 16 ∷ pos 20 ∷ pos 11 ∷ []) i) ≤ 4
 background_close v kept i l =
-    rw keys-four-by-two at (demand3-close (Background (pos 7)) Keys 4 2 screen_rows screen_columns screen v (lit< tt) (lit< tt) (omega arith) (λ i l. in_range screen tt i) kept i l)
+    rw keys_four_by_two at (demand3-close (Background (pos 7)) Keys 4 2 screen_rows screen_columns screen v (lit< tt) (lit< tt) (omega arith) (λ i l. in_range screen tt i) kept i l)
 
 -- edges wrapped in every pass, where a background is set
 abbrev wrapped_edges : List ℤ

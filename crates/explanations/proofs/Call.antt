@@ -40,7 +40,7 @@ abbrev three : List ℤ
 three = pos 294912 ∷ negsuc 294911 ∷ pos 294913 ∷ []
 
 -- the first and the last place of a line of two, the farthest moves, a line and a work of just n and 6n places
-accepted-at-the-ends :
+accepted_at_the_ends :
     map verdict_of
     (call 2 0 (pos 4194304) 0 three 12
     ∷ call 2 2 (negsuc 4194303) 1 three 12
@@ -48,7 +48,7 @@ accepted-at-the-ends :
     ∷ [])
     ≡ replicate 3 Accepted
 unfolding judged judged_by too_short bad_side short bad_kernel beyond_of first_bad first_from
-accepted-at-the-ends = refl
+accepted_at_the_ends = refl
 
 -- computed up to number 6, which zeros do not meet
 longest_accepted : verdict_of (call 1024 1 (pos 0) 1023 (replicate 1024 (pos 0)) 6144) ≡ Accepted
@@ -56,7 +56,7 @@ unfolding judged judged_by too_short bad_side short bad_kernel beyond_of
 longest_accepted = rw (one_number_good range 1024 1 1024 (pos 0) (lit≤ tt) (lit≤ tt)) refl
 
 -- one past each end: a place beyond the line is refused though the buffer has it, ahead of a bad sample
-refused-past-the-ends :
+refused_past_the_ends :
     map verdict_of
     (call 0 0 (pos 0) 0 three 18
     ∷ call 1025 0 (pos 0) 0 (replicate 1025 (pos 0)) 6150
@@ -81,10 +81,10 @@ refused-past-the-ends :
     ∷ Refused 6 0 1
     ∷ []
 unfolding judged judged_by too_short bad_side short bad_kernel beyond_of first_bad first_from
-refused-past-the-ends = refl
+refused_past_the_ends = refl
 
 -- of two neighbouring numbers that both apply the one that is judged first is told: 1, 2, 4, 5, 7, 6
-first-of-two :
+first_of_two :
     map verdict_of
     (call 1025 0 (pos 0) 0 [] 0
     ∷ call 3 0 (pos 4194305) 0 three 17
@@ -94,7 +94,7 @@ first-of-two :
     ∷ [])
     ≡ Refused 1 0 0 ∷ Refused 2 0 0 ∷ Refused 4 0 0 ∷ Refused 5 0 0 ∷ Refused 7 0 0 ∷ []
 unfolding judged judged_by too_short bad_side short bad_kernel beyond_of first_bad first_from
-first-of-two = refl
+first_of_two = refl
 
 -- refused, every figure is 0
 refused_parts : explanation_of 2 0 (pos 0) 2 three 12 ≡ record { verdict = Refused 7 0 0; parts = no_parts }

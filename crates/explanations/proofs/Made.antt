@@ -37,7 +37,7 @@ abbrev parts_at : ℕ → ℤ → ℕ → List ℤ → Parts
 parts_at kernel d k s = parts_of (kernel_of kernel) (length s) d k (source_of (length s) kernel s)
 
 -- document 01's line 0 0 16 0, moved by half a sample under Keys, has -1 at place 3: from the places 2, 3, 0 and 1, taken modulo 4
-keys-overshoot :
+keys_overshoot :
     parts_at 1 (negsuc 2047) 3 (pos 0 ∷ pos 0 ∷ pos 16 ∷ pos 0 ∷ [])
     ≡ record {
       terms =
@@ -51,10 +51,10 @@ keys-overshoot :
       quotient = negsuc 0;
     }
 unfolding parts_by place_of source remainder floor round fraction whole tab weigh Σ
-keys-overshoot = refl
+keys_overshoot = refl
 
 -- 0 -1 by half a sample under linear: -1/2 becomes 0, a half upward
-linear-half :
+linear_half :
     parts_at 0 (pos 2048) 0 (pos 0 ∷ negsuc 0 ∷ [])
     ≡ record {
       terms = term_by 0 (pos 0) (pos 0) ∷ term_by 1 (pos 34359738368) (negsuc 0) ∷ term_by 0 (pos 34359738368) (pos 0) ∷ term_by 1 (pos 0) (negsuc 0) ∷ [];
@@ -63,10 +63,10 @@ linear-half :
       quotient = pos 0;
     }
 unfolding parts_by place_of source remainder floor round fraction whole tab weigh Σ
-linear-half = refl
+linear_half = refl
 
 -- 0 6 by half a sample under the spline: coefficients, in sixteenths of a unit, over 16·6·D³
-spline-coefficients :
+spline_coefficients :
     parts_at 2 (pos 2048) 0 (pos 0 ∷ pos 6 ∷ [])
     ≡ record {
       terms =
@@ -80,7 +80,7 @@ spline-coefficients :
       quotient = pos 3;
     }
 unfolding parts_by place_of source coefficient scaled v back down filter u run wrap remainder floor round fraction whole tab weigh Σ
-spline-coefficients = refl
+spline_coefficients = refl
 
 -- ---- every source place is on the line
 pub place_inside : (N : ℕ) (d : ℤ) (k i : ℕ) → 0 < N → place_of N d k i < N

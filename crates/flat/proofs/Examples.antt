@@ -48,11 +48,11 @@ unfolding three reading_answer reading_of float_of round of_bits judged_point po
 reads_over = refl
 
 -- its darkest grey is -1/2, its lightest 256
-darkest-and-lightest :
+darkest_and_lightest :
     of_summary (summary_answer 3 1 three)
     ≡ record { number = 0; row = 0; column = 0; darkest = of_bits binary32 0xBF00_0000; lightest = of_bits binary32 0x4380_0000 }
 unfolding three summary_answer picked minℤ maxℤ float_of round of_bits judged judged_by bad_size bad_side short first_bad first_from beyond_of
-darkest-and-lightest = refl
+darkest_and_lightest = refl
 
 -- a picture 2 wide and 2 high, whose first sample beyond ±1,048,576 is in row 1 and column 0
 bad : List ℤ

@@ -52,11 +52,11 @@ module _ (n y x : ℕ) where
   refused-line = refl
 
   -- with four terms of 0
-  pub refused-explanation :
+  pub refused_explanation :
       of_explanation (record { verdict = verdict.Refused n y x; parts = no_parts })
       ≡ record { number = n; row = y; column = x; terms = replicate 4 no_term; sum = pos 0; divisor = pos 0; quotient = pos 0 }
   unfolding no_parts tab
-  refused-explanation = refl
+  refused_explanation = refl
 
   -- with the step that it tells
   pub refused_checked : (t : ℤ) → of_checked (record { verdict = verdict.Refused n y x; step = t }) ≡ record { number = n; row = y; column = x; step = t }

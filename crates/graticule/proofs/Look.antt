@@ -40,10 +40,10 @@ abbrev pub small : List ℤ
 small = pos 9 ∷ pos 8 ∷ pos 7 ∷ pos 6 ∷ pos 5 ∷ negsuc 0 ∷ pos 5 ∷ pos 2 ∷ pos 9 ∷ pos 9 ∷ pos 9 ∷ pos 1 ∷ []
 
 -- the line looks at 9, -1, 5 and 1: below 0 the first is -1, below 10 and below the largest number of 32 bits it is 9, and below the smallest there is none
-found-down :
+found_down :
     map (λ (t : ℤ). first_below 4 down t small) (pos 0 ∷ pos 10 ∷ pos 2147483647 ∷ negsuc 2147483647 ∷ []) ≡ At 1 1 ∷ At 0 0 ∷ At 0 0 ∷ Nothing ∷ []
 unfolding first_below first_from row_at floor
-found-down = refl
+found_down = refl
 
 -- from (1, 2) to (3, 2) it looks at 9, 9 and 1: the last, in the column of x2, is below 2 and not below 1
 found_across : map (λ (t : ℤ). first_below 4 (record { x1 = 1; y1 = 2; x2 = 3; y2 = 2 }) t small) (pos 2 ∷ pos 1 ∷ []) ≡ At 2 3 ∷ Nothing ∷ []

@@ -52,7 +52,7 @@ abbrev below : List ℤ
 below = pos 0 ∷ pos 0 ∷ negsuc 294912 ∷ pos 294913 ∷ []
 
 -- both ends of every range, and buffers of just n, n and 6n places
-accepted-at-the-ends :
+accepted_at_the_ends :
     map verdict_of
     (call 1 0 (pos 4194304) Wrapped ends 1 6
     ∷ call 2 2 (negsuc 4194303) Wrapped ends 2 12
@@ -61,7 +61,7 @@ accepted-at-the-ends :
     ∷ [])
     ≡ replicate 4 Accepted
 unfolding judged judged_by too_short bad_side short bad_kernel bad_background beyond_of first_bad first_from
-accepted-at-the-ends = refl
+accepted_at_the_ends = refl
 
 -- computed up to number 6, which zeros do not meet
 longest_accepted : verdict_of (call 1024 1 (pos 0) Wrapped (replicate 1024 (pos 0)) 1024 6144) ≡ Accepted
@@ -69,7 +69,7 @@ unfolding judged judged_by too_short bad_side short bad_kernel bad_background be
 longest_accepted = rw (one_number_good range 1024 1 1024 (pos 0) (lit≤ tt) (lit≤ tt)) refl
 
 -- one past each end, and each buffer one place short
-refused-past-the-ends :
+refused_past_the_ends :
     map verdict_of
     (call 0 0 (pos 0) Wrapped ends 2 12
     ∷ call 1025 0 (pos 0) Wrapped (replicate 1025 (pos 0)) 1025 6150
@@ -94,7 +94,7 @@ refused-past-the-ends :
     ∷ Refused 12 0 0
     ∷ []
 unfolding judged judged_by too_short bad_side short bad_kernel bad_background beyond_of first_bad first_from
-refused-past-the-ends = refl
+refused_past_the_ends = refl
 
 -- the first sample past its range, above or below, in row 0, whatever comes after it; not one that is past the n samples
 first_bad_sample :
@@ -104,7 +104,7 @@ unfolding judged judged_by too_short bad_side short bad_kernel bad_background be
 first_bad_sample = refl
 
 -- of two neighbouring numbers that both apply the one that is judged first is told: 12 stands between 5 and 6
-first-of-two :
+first_of_two :
     map verdict_of
     (call 1025 0 (pos 0) Wrapped [] 0 0
     ∷ call 3 0 (pos 4194305) Wrapped past 3 17
@@ -114,14 +114,14 @@ first-of-two :
     ∷ [])
     ≡ Refused 1 0 0 ∷ Refused 2 0 0 ∷ Refused 4 0 0 ∷ Refused 5 0 0 ∷ Refused 12 0 0 ∷ []
 unfolding judged judged_by too_short bad_side short bad_kernel bad_background beyond_of first_bad first_from
-first-of-two = refl
+first_of_two = refl
 
 -- number, row, column and count: of a refused call, of a move by a 4,096th of a sample either way, of one by a whole sample, and on background of
 -- a move by N samples and a 4,096th, which leaves nothing to count, and of one by a 4,096th less than N
 abbrev figures : Call → List ℕ
 figures c = let r = outcome c [] in number_of r ∷ row_of r ∷ column_of r ∷ count_of r ∷ []
 
-figures-of-outcomes :
+figures_of_outcomes :
     map figures
     (call 3 0 (pos 2048) Wrapped past 3 18
     ∷ call 2 0 (pos 1) Wrapped ends 2 12
@@ -138,7 +138,7 @@ figures-of-outcomes :
     ∷ (0 ∷ 0 ∷ 0 ∷ 1 ∷ [])
     ∷ []
 unfolding outcome_of is_interpolated fraction_in gone far fraction remainder floor judged judged_by too_short bad_side short bad_kernel bad_background beyond_of first_bad first_from
-figures-of-outcomes = refl
+figures_of_outcomes = refl
 
 -- the smallest and the largest output sample: a steep edge of 1,000 and 9,000 units, moved by half a sample under Keys, overshoots by 500 on either
 -- side, and what stands in the result past its n places is not looked at; of a refused call, whose result holds what it held, both are 0
@@ -148,10 +148,10 @@ edge = pos 1000 ∷ pos 1000 ∷ pos 1000 ∷ pos 9000 ∷ pos 9000 ∷ pos 9000
 abbrev extremes : Call → List ℤ → List ℤ
 extremes c left = let r = outcome c left in smallest_of r ∷ largest_of r ∷ []
 
-extremes-of-outcomes :
+extremes_of_outcomes :
     extremes (call 6 1 (pos 2048) Wrapped edge 8 36) (move_in Wrapped Keys (pos 2048) edge ++ (negsuc 6 ∷ pos 20000 ∷ []))
     ∷ extremes (call 3 1 (pos 2048) Wrapped past 3 18) (pos 5 ∷ pos 6 ∷ pos 7 ∷ [])
     ∷ []
     ≡ (pos 500 ∷ pos 9500 ∷ []) ∷ (pos 0 ∷ pos 0 ∷ []) ∷ []
 unfolding outcome_of picked minℤ maxℤ move_in bordered moved source mixed first weigh Σ wrap tab round whole is_interpolated fraction_in gone far fraction remainder floor judged judged_by too_short bad_side short bad_kernel bad_background beyond_of first_bad first_from
-extremes-of-outcomes = refl
+extremes_of_outcomes = refl

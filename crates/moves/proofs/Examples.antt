@@ -48,11 +48,11 @@ samples_alone_left within = (subst (λ (t : List ℤ). line t 0 ≤ℤ pos 10) t
 abbrev two_raised : List ℤ
 two_raised = pos 10 ∷ pos 20 ∷ []
 
-two-raised-moved :
+two_raised_moved :
     map (λ (β : Border). move_in β Linear (pos 2048) two_raised) (raised (pos 10) (Background (pos 100)) ∷ Background (pos 100) ∷ [])
     ≡ (pos 60 ∷ pos 15 ∷ []) ∷ (pos 55 ∷ pos 15 ∷ []) ∷ []
 unfolding floor remainder round Σ fraction whole tab wrap weigh first mixed source moved framed far bordered move_in
-two-raised-moved = refl
+two_raised_moved = refl
 
 -- ---- overshoot: half-way between samples, Keys takes -1/16 of the second nearest on each side
 abbrev peak : List ℤ

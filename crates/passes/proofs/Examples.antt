@@ -63,11 +63,11 @@ spline_two_by_three =
     ∙ rw (spline_two_by_three_one, spline_two_by_three_two) spline_two_by_three_three
 
 -- 3 by 2, centre (2,1), A = 1,000, B = -3,000: row 0 is counted twice, columns 0 and 1 once
-pub keys-three-by-two :
+pub keys_three_by_two :
     straighten Wrapped Keys 3 2 (shear (pos 1000) 1) (shear (negsuc 2999) 2) (pos 10 ∷ negsuc 19 ∷ pos 30 ∷ negsuc 39 ∷ pos 50 ∷ negsuc 59 ∷ [])
     ≡ negsuc 12 ∷ pos 43 ∷ pos 18 ∷ negsuc 16 ∷ negsuc 0 ∷ negsuc 59 ∷ []
 unfolding floor remainder round Σ fraction whole tab wrap weigh first mixed source moved bordered picture pictured rows_moved straighten
-keys-three-by-two = refl
+keys_three_by_two = refl
 
 pub keys_three_by_two_count : count Wrapped 3 2 (shear (pos 1000) 1) (shear (negsuc 2999) 2) ≡ 4
 unfolding floor remainder fraction gone fraction_in interpolated count
@@ -75,17 +75,17 @@ keys_three_by_two_count = refl
 
 -- 4 by 2 on background 7, centre (0,0), A = 1,000, B = 3,000: column 3 moves by 9,000/4,096 samples, over its own 2 though not over a row's 4, and
 -- becomes background, which is not counted
-pub keys-four-by-two :
+pub keys_four_by_two :
     straighten (Background (pos 7)) Keys 4 2 (shear (pos 1000) 0) (shear (pos 3000) 0)
     (pos 10 ∷ negsuc 19 ∷ pos 30 ∷ pos 40 ∷ negsuc 39 ∷ pos 50 ∷ negsuc 59 ∷ pos 70 ∷ [])
     ≡ pos 10 ∷ negsuc 0 ∷ pos 5 ∷ pos 7 ∷ negsuc 29 ∷ negsuc 16 ∷ pos 20 ∷ pos 11 ∷ []
 unfolding floor remainder round Σ fraction whole tab wrap weigh first mixed source moved framed far bordered picture pictured rows_moved straighten
-keys-four-by-two = refl
+keys_four_by_two = refl
 
-pub keys-four-by-two-counts :
+pub keys_four_by_two_counts :
     map (λ (e : Border). count e 4 2 (shear (pos 1000) 0) (shear (pos 3000) 0)) (Background (pos 7) ∷ Wrapped ∷ []) ≡ 4 ∷ 5 ∷ []
 unfolding floor remainder fraction far gone fraction_in interpolated count
-keys-four-by-two-counts = refl
+keys_four_by_two_counts = refl
 
 -- ---- Q-12: pictures of 2 columns, by what each pass makes of them
 staged : (κ : Kernel) (H : ℕ) (rows columns : ℕ → ℤ) (s one two three : List ℤ) → 0 < H → rows_pass Wrapped κ 2 H rows s ≡ one → columns_pass Wrapped κ 2 H columns one ≡ two

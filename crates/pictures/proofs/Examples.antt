@@ -72,14 +72,14 @@ rows_extremes = refl
 
 -- a picture of 2 by 9 with centre (0,0) and A = 1,000: wrapped, its rows 1 to 8 are interpolated twice; on background row 8 moves by less than
 -- 2 samples, and with A = 1,100 it moves by more and becomes background, which is not counted
-rows-counted :
+rows_counted :
     map (λ (e : Border). count e 2 9 (row_moves (set 0 0 0 (pos 1000) (pos 0))) (column_moves still)) (Wrapped ∷ Background (pos 0) ∷ [])
     ≡ 16 ∷ 16 ∷ []
 unfolding floor remainder fraction far gone fraction_in interpolated count
-rows-counted = refl
+rows_counted = refl
 
-far-rows-not-counted :
+far_rows_not_counted :
     map (λ (e : Border). count e 2 9 (row_moves (set 0 0 0 (pos 1100) (pos 0))) (column_moves still)) (Wrapped ∷ Background (pos 0) ∷ [])
     ≡ 16 ∷ 14 ∷ []
 unfolding floor remainder fraction far gone fraction_in interpolated count
-far-rows-not-counted = refl
+far_rows_not_counted = refl

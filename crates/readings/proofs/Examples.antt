@@ -13,10 +13,10 @@ use Rattle.readings.specs.Sample.{grey_of, float_of, reading_of}
 use Rattle.readings.specs.Answers.{judged_by, judged, outside, judged_point, reading_answer, summary_answer}
 
 -- greys of -65, -64, 63, 64, 32,640 and 32,704: 64 units are the first of grey 1, and a grey is held to 0 to 255
-greys-at-the-borders :
+greys_at_the_borders :
     map grey_of (negsuc 64 ∷ negsuc 63 ∷ pos 63 ∷ pos 64 ∷ pos 32640 ∷ pos 32704 ∷ []) ≡ 0 ∷ 0 ∷ 0 ∷ 1 ∷ 255 ∷ 255 ∷ []
 unfolding grey_of floor minℤ maxℤ
-greys-at-the-borders = refl
+greys_at_the_borders = refl
 
 -- greys of 1,920 and 30,208: one darker than video black and one lighter than video white are kept
 greys_beyond_video : map grey_of (pos 1920 ∷ pos 30208 ∷ []) ≡ 15 ∷ 236 ∷ []
@@ -37,10 +37,10 @@ zero_and_250 : map reading_of (pos 0 ∷ pos 32000 ∷ []) ≡ Under (of_bits bi
 unfolding reading_of float_of round of_bits
 zero_and_250 = refl
 
-ends-of-the-range :
+ends_of_the_range :
     map reading_of (negsuc 1048575 ∷ pos 1048576 ∷ []) ≡ Under (of_bits binary32 0x4600_4000) ∷ Over (of_bits binary32 0x45F8_A800) ∷ []
 unfolding reading_of float_of round of_bits
-ends-of-the-range = refl
+ends_of_the_range = refl
 
 -- a picture 2 wide and 2 high: the first bad sample in row order is named, whatever comes after it
 two_bad : List ℤ
@@ -77,10 +77,10 @@ point_outside = refl
 six : List ℤ
 six = pos 384 ∷ pos 40960 ∷ negsuc 63 ∷ pos 0 ∷ negsuc 127 ∷ pos 128 ∷ []
 
-darkest-and-lightest :
+darkest_and_lightest :
     summary_answer 3 2 six ≡ record { verdict = Accepted; summary = record { darkest = of_bits binary32 0xBF80_0000; lightest = of_bits binary32 0x43A0_0000 } }
 unfolding six summary_answer picked minℤ maxℤ float_of round of_bits judged judged_by bad_size bad_side short first_bad first_from beyond_of
-darkest-and-lightest = refl
+darkest_and_lightest = refl
 
 -- column 2 and row 0 of it, half a grey below 0: Under by 16 and a half
 half_under : reading_answer 3 2 2 0 six ≡ record { verdict = Accepted; reading = Under (of_bits binary32 0x4184_0000) }
@@ -97,8 +97,8 @@ refused_summary :
 unfolding two_bad summary_answer float_of round of_bits judged judged_by bad_size bad_side short first_bad first_from beyond_of
 refused_summary = refl
 
-refused-figures :
+refused_figures :
     let v = judged 2 2 4 two_bad in
     (number_of v ≡ 6) × (row_of v ≡ 1) × (column_of v ≡ 0)
 unfolding two_bad judged judged_by bad_size bad_side short first_bad first_from beyond_of
-refused-figures = (refl, refl, refl)
+refused_figures = (refl, refl, refl)

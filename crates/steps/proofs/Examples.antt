@@ -45,12 +45,12 @@ step-back-1698 = refl
 before_change : Setting
 before_change = record { kernel = 2; cx = 3; cy = 5; a = pos 7; b = pos 11; border = Background (pos 13) }
 
-change-1000 :
+change_1000 :
     change_of before_change (pos 1000) ≡ record { number = 0; setting = record { kernel = 2; cx = 3; cy = 5; a = negsuc 999; b = pos 1887; border = Background (pos 13) } }
 unfolding before_change change_of beyond_of S entry
-change-1000 = refl
+change_1000 = refl
 
-change-back-1698 :
+change_back_1698 :
     change_of before_change (negsuc 1697) ≡ record { number = 4; setting = record { kernel = 2; cx = 3; cy = 5; a = pos 7; b = pos 11; border = Background (pos 13) } }
 unfolding before_change change_of beyond_of
-change-back-1698 = refl
+change_back_1698 = refl
