@@ -34,7 +34,7 @@ def texts():
 
 
 def snake(word):
-    return re.sub(r"(?<=[a-z0-9])([A-Z])", lambda it: "_" + it[1].lower(), word)
+    return re.sub(r"(?<=[a-z0-9])([A-Z])", lambda it: "_" + it[1].lower(), re.sub(r"(?<=[a-z])ℤ", "_ℤ", word))
 
 
 def declared():

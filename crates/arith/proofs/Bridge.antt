@@ -16,7 +16,7 @@ use lib.IntN.{ℤ, pos, negsuc, neg_ℤ, suc_ℤ, pred_ℤ, nat_abs, ◌+ℤ◌,
 use lib.Signed.{◌≤ℤ◌, ◌<ℤ◌, ≤ℤ_refl, le_z, mag}
 use mir.Syntax.{Width}
 use mir.Val.{SFits, hbits}
-use Rattle.arith.specs.Whole.{minℤ, maxℤ}
+use Rattle.arith.specs.Whole.{min_ℤ, max_ℤ}
 
 -- ---- what the library's laws lack to make a ring: the sum moves through the product
 
@@ -46,15 +46,15 @@ pub *ℤ-+ℤ : (a b c : ℤ) → a *ℤ (b +ℤ c) ≡ a *ℤ b +ℤ a *ℤ c
         → (neg_ℤ (pos n) +ℤ neg_ℤ (pos (suc zero))) *ℤ (b +ℤ c) ≡ (neg_ℤ (pos n) +ℤ neg_ℤ (pos (suc zero))) *ℤ b +ℤ (neg_ℤ (pos n) +ℤ neg_ℤ (pos (suc zero))) *ℤ c
     down n h = subst (λ m. m *ℤ (b +ℤ c) ≡ m *ℤ b +ℤ m *ℤ c) (sym (-ℤ_one (neg_ℤ (pos n)))) (back (neg_ℤ (pos n)) h)
 
-pub negℤ_*ℤ : (a b : ℤ) → neg_ℤ a *ℤ b ≡ neg_ℤ (a *ℤ b)
-negℤ_*ℤ (pos zero) b = zero-*ℤ b ∙ sym (ap neg_ℤ (zero-*ℤ b))
-negℤ_*ℤ (pos (suc a)) (pos b) = refl
-negℤ_*ℤ (pos (suc a)) (negsuc b) = sym (neg_ℤ-neg_ℤ (pos (suc a * suc b)))
-negℤ_*ℤ (negsuc a) (pos b) = sym (neg_ℤ-neg_ℤ (pos (suc a * b)))
-negℤ_*ℤ (negsuc a) (negsuc b) = refl
+pub neg_ℤ_*ℤ : (a b : ℤ) → neg_ℤ a *ℤ b ≡ neg_ℤ (a *ℤ b)
+neg_ℤ_*ℤ (pos zero) b = zero-*ℤ b ∙ sym (ap neg_ℤ (zero-*ℤ b))
+neg_ℤ_*ℤ (pos (suc a)) (pos b) = refl
+neg_ℤ_*ℤ (pos (suc a)) (negsuc b) = sym (neg_ℤ-neg_ℤ (pos (suc a * suc b)))
+neg_ℤ_*ℤ (negsuc a) (pos b) = sym (neg_ℤ-neg_ℤ (pos (suc a * b)))
+neg_ℤ_*ℤ (negsuc a) (negsuc b) = refl
 
-pub *ℤ_negℤ : (a b : ℤ) → a *ℤ neg_ℤ b ≡ neg_ℤ (a *ℤ b)
-*ℤ_negℤ a b = *ℤ_comm a (neg_ℤ b) ∙ negℤ_*ℤ b a ∙ ap neg_ℤ (*ℤ_comm b a)
+pub *ℤ_neg_ℤ : (a b : ℤ) → a *ℤ neg_ℤ b ≡ neg_ℤ (a *ℤ b)
+*ℤ_neg_ℤ a b = *ℤ_comm a (neg_ℤ b) ∙ neg_ℤ_*ℤ b a ∙ ap neg_ℤ (*ℤ_comm b a)
 
 pub +ℤ-*ℤ : (a b c : ℤ) → (a +ℤ b) *ℤ c ≡ a *ℤ c +ℤ b *ℤ c
 +ℤ-*ℤ a b c = *ℤ_comm (a +ℤ b) c ∙ *ℤ-+ℤ c a b ∙ ap₂ ◌+ℤ◌ (*ℤ_comm c a) (*ℤ_comm c b)
@@ -99,12 +99,12 @@ D-mul a b c d =
     ∙ ap (λ t. pos (a * c + b * d) +ℤ t) (sym (neg_ℤ-+ℤ (pos (a * d)) (pos (b * c))))
   where
     left : pos a *ℤ (pos c +ℤ neg_ℤ (pos d)) ≡ pos (a * c) +ℤ neg_ℤ (pos (a * d))
-    left = *ℤ-+ℤ (pos a) (pos c) (neg_ℤ (pos d)) ∙ ap (λ t. pos (a * c) +ℤ t) (*ℤ_negℤ (pos a) (pos d))
+    left = *ℤ-+ℤ (pos a) (pos c) (neg_ℤ (pos d)) ∙ ap (λ t. pos (a * c) +ℤ t) (*ℤ_neg_ℤ (pos a) (pos d))
 
     right : neg_ℤ (pos b) *ℤ (pos c +ℤ neg_ℤ (pos d)) ≡ neg_ℤ (pos (b * c)) +ℤ pos (b * d)
     right =
         *ℤ-+ℤ (neg_ℤ (pos b)) (pos c) (neg_ℤ (pos d))
-        ∙ ap₂ ◌+ℤ◌ (negℤ_*ℤ (pos b) (pos c)) (negℤ_*ℤ (pos b) (neg_ℤ (pos d)) ∙ ap neg_ℤ (*ℤ_negℤ (pos b) (pos d)) ∙ neg_ℤ-neg_ℤ (pos (b * d)))
+        ∙ ap₂ ◌+ℤ◌ (neg_ℤ_*ℤ (pos b) (pos c)) (neg_ℤ_*ℤ (pos b) (neg_ℤ (pos d)) ∙ ap neg_ℤ (*ℤ_neg_ℤ (pos b) (pos d)) ∙ neg_ℤ-neg_ℤ (pos (b * d)))
 
 -- the two forms of a difference
 pub D_cases : (a b : ℕ) (P : ℤ → Type 0) → (b ≤ a → P (pos (a - b))) → (a < b → P (negsuc (b - suc a))) → P (D a b)
@@ -271,14 +271,14 @@ le_cases P a b c d f g = go (le_z (D a b) (D c d)) (λ t. le_mp a b c d (record 
         above : ¬ (a + d ≤ c + b) → c + b ≤ a + d
         above h = omega arith
 
-pub D-min : (a b c d : ℕ) → minℤ (D a b) (D c d) ≡ D (min (a + d) (c + b)) (b + d)
-unfolding minℤ
+pub D-min : (a b c d : ℕ) → min_ℤ (D a b) (D c d) ≡ D (min (a + d) (c + b)) (b + d)
+unfolding min_ℤ
 D-min a b c d =
     le_cases (λ t. cond t (D a b) (D c d) ≡ D (min (a + d) (c + b)) (b + d)) a b c d
     (λ h. (D-eq a b (min (a + d) (c + b)) (b + d)).1 (omega arith)) (λ h. (D-eq c d (min (a + d) (c + b)) (b + d)).1 (omega arith))
 
-pub D-max : (a b c d : ℕ) → maxℤ (D a b) (D c d) ≡ D (max (a + d) (c + b)) (b + d)
-unfolding maxℤ
+pub D-max : (a b c d : ℕ) → max_ℤ (D a b) (D c d) ≡ D (max (a + d) (c + b)) (b + d)
+unfolding max_ℤ
 D-max a b c d =
     le_cases (λ t. cond t (D c d) (D a b) ≡ D (max (a + d) (c + b)) (b + d)) a b c d
     (λ h. (D-eq c d (max (a + d) (c + b)) (b + d)).1 (omega arith)) (λ h. (D-eq a b (max (a + d) (c + b)) (b + d)).1 (omega arith))

@@ -8,7 +8,7 @@ use lib.Signed.{◌≤ℤ◌, ◌<ℤ◌, shr_z, quot_z, rem_z}
 use mir.Syntax.{w32, w64}
 use mir.Val.{SFits}
 use Rattle.arith.proofs.Bridge.{bridge, prod, all1, all2, all3, all4}
-use Rattle.arith.specs.Whole.{minℤ, maxℤ, round}
+use Rattle.arith.specs.Whole.{min_ℤ, max_ℤ, round}
 use Rattle.arith.proofs.Ring.{var, ◌⊞◌, ⊟◌, ring, reify, vars2, vars3, vars4}
 use Rattle.arith.proofs.Cert.{linear, rounding, refute, equal, ◌⊕◌, ◌⊗◌, ◌·◌, ◌⊙◌, square}
 use Rattle.arith.proofs.Divide.{division}
@@ -37,7 +37,7 @@ errors_add = all4 _ (simp bridge (omega arith))
 sum_fits : (x y : ℤ) → SFits w32 x → SFits w32 y → SFits w64 (x +ℤ y)
 sum_fits = all2 _ (simp bridge (omega arith))
 
-clamped : (x lo hi : ℤ) → lo ≤ℤ hi → (lo ≤ℤ maxℤ lo (minℤ x hi)) × (maxℤ lo (minℤ x hi) ≤ℤ hi)
+clamped : (x lo hi : ℤ) → lo ≤ℤ hi → (lo ≤ℤ max_ℤ lo (min_ℤ x hi)) × (max_ℤ lo (min_ℤ x hi) ≤ℤ hi)
 clamped = all3 _ (simp bridge (omega arith))
 
 -- ---- `bridge`: products, by the facts that are handed over. `prod h k` of p ≤ q and r ≤ s says that (q − p)·(s − r) is not negative

@@ -84,8 +84,8 @@ pub -ℤ_mono : {x y u v : ℤ} → x ≤ℤ y → u ≤ℤ v → (x -ℤ v) ≤
 pub gap_non_neg : (x y : ℤ) → x ≤ℤ y → pos 0 ≤ℤ (y -ℤ x)
 gap_non_neg = all2 _ (simp bridge (omega arith))
 
-pub negℤ_mono : {x y : ℤ} → x ≤ℤ y → neg_ℤ y ≤ℤ neg_ℤ x
-negℤ_mono {x} {y} = all2 (λ x y. x ≤ℤ y → neg_ℤ y ≤ℤ neg_ℤ x) (simp bridge (omega arith)) x y
+pub neg_ℤ_mono : {x y : ℤ} → x ≤ℤ y → neg_ℤ y ≤ℤ neg_ℤ x
+neg_ℤ_mono {x} {y} = all2 (λ x y. x ≤ℤ y → neg_ℤ y ≤ℤ neg_ℤ x) (simp bridge (omega arith)) x y
 
 pub *ℤ_non_neg : {x y : ℤ} → pos 0 ≤ℤ x → pos 0 ≤ℤ y → pos 0 ≤ℤ (x *ℤ y)
 *ℤ_non_neg {x} {y} = all2 (λ x y. pos 0 ≤ℤ x → pos 0 ≤ℤ y → pos 0 ≤ℤ (x *ℤ y)) (simp bridge (λ a b c d h k. omega (arith, prod h k))) x y
@@ -127,8 +127,8 @@ cancel (pos n) x y h e = *ℤ_cancel n (positive n h) e
 cancel (negsuc n) x y h e = absurd h.lt
 
 -- ---- sizes
-pub nat_abs_negℤ : (x : ℤ) → nat_abs (neg_ℤ x) ≡ nat_abs x
-nat_abs_negℤ = all1 _ (simp bridge (omega arith))
+pub nat_abs_neg_ℤ : (x : ℤ) → nat_abs (neg_ℤ x) ≡ nat_abs x
+nat_abs_neg_ℤ = all1 _ (simp bridge (omega arith))
 
 pub nat_abs-+ℤ : (x y : ℤ) → nat_abs (x +ℤ y) ≤ nat_abs x + nat_abs y
 nat_abs-+ℤ = all2 _ (simp bridge (omega arith))
@@ -145,8 +145,8 @@ nat_abs_past = all3 _ (simp bridge (omega arith))
 
 pub nat_abs-*ℤ : (x y : ℤ) → nat_abs (x *ℤ y) ≡ nat_abs x * nat_abs y
 nat_abs-*ℤ (pos a) (pos b) = refl
-nat_abs-*ℤ (pos a) (negsuc b) = nat_abs_negℤ (pos (a * suc b))
-nat_abs-*ℤ (negsuc a) (pos b) = nat_abs_negℤ (pos (suc a * b))
+nat_abs-*ℤ (pos a) (negsuc b) = nat_abs_neg_ℤ (pos (a * suc b))
+nat_abs-*ℤ (negsuc a) (pos b) = nat_abs_neg_ℤ (pos (suc a * b))
 nat_abs-*ℤ (negsuc a) (negsuc b) = refl
 
 pub nat_abs-*ℤ-≤ : {m n : ℕ} (x y : ℤ) → nat_abs x ≤ m → nat_abs y ≤ n → nat_abs (x *ℤ y) ≤ m * n

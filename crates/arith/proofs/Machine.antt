@@ -16,7 +16,7 @@ use mir.Facts.{to_z-of_z, Fits-nat_abs}
 use mir.ValLaws.{sfits_le}
 use mathlib.Core.Logic.{◌↔◌}
 use Rattle.arith.proofs.Bridge.{bridge, all1}
-use Rattle.arith.proofs.Laws.{nat_abs_negℤ, <ℤ_of_¬≤ℤ, pos_non_neg, positive}
+use Rattle.arith.proofs.Laws.{nat_abs_neg_ℤ, <ℤ_of_¬≤ℤ, pos_non_neg, positive}
 
 -- a slice's element or a call's result is read back as it is: `.given` and `.ok` hand over its range as a size
 pub read_back : (w : Width) (z : ℤ) → mag z < 2 ^ hbits w → to_z w (of_z w z) ≡ z
@@ -102,13 +102,13 @@ quot-sfits {z = negsuc a} {d = negsuc b} f h = absurd h.lt
 
 pub quot_size : (z d : ℤ) → nat_abs (quot_z z d) ≤ nat_abs z
 quot_size (pos a) (pos b) = div-le_self a b
-quot_size (pos a) (negsuc b) = le_trans (le_of_eq (nat_abs_negℤ (pos (a / suc b)))) (div-le_self a (suc b))
-quot_size (negsuc a) (pos b) = le_trans (le_of_eq (nat_abs_negℤ (pos (suc a / b)))) (div-le_self (suc a) b)
+quot_size (pos a) (negsuc b) = le_trans (le_of_eq (nat_abs_neg_ℤ (pos (a / suc b)))) (div-le_self a (suc b))
+quot_size (negsuc a) (pos b) = le_trans (le_of_eq (nat_abs_neg_ℤ (pos (suc a / b)))) (div-le_self (suc a) b)
 quot_size (negsuc a) (negsuc b) = div-le_self (suc a) (suc b)
 
 pub rem_size : (z d : ℤ) → nat_abs (rem_z z d) ≤ nat_abs z
 rem_size (pos a) d = mod-le a (nat_abs d)
-rem_size (negsuc a) d = le_trans (le_of_eq (nat_abs_negℤ (pos (suc a % nat_abs d)))) (mod-le (suc a) (nat_abs d))
+rem_size (negsuc a) d = le_trans (le_of_eq (nat_abs_neg_ℤ (pos (suc a % nat_abs d)))) (mod-le (suc a) (nat_abs d))
 
 pub rem-sfits : {w : Width} (z d : ℤ) → SFits w z → SFits w (rem_z z d)
 rem-sfits z d f = sfits_le {z = z} (mag_rem z d) f

@@ -33,16 +33,16 @@ unfolding Σ
 Σ-*ℤ c f zero = sym (*ℤ-zero c)
 Σ-*ℤ c f (suc n) = ap (λ t. t +ℤ c *ℤ f n) (Σ-*ℤ c f n) ∙ sym (*ℤ-+ℤ c (Σ f n) (f n))
 
-pub Σ_negℤ : (f : ℕ → ℤ) (n : ℕ) → Σ (λ k. neg_ℤ (f k)) n ≡ neg_ℤ (Σ f n)
+pub Σ_neg_ℤ : (f : ℕ → ℤ) (n : ℕ) → Σ (λ k. neg_ℤ (f k)) n ≡ neg_ℤ (Σ f n)
 unfolding Σ
-Σ_negℤ f zero = refl
-Σ_negℤ f (suc n) = ap (λ t. t +ℤ neg_ℤ (f n)) (Σ_negℤ f n) ∙ minus (Σ f n) (f n)
+Σ_neg_ℤ f zero = refl
+Σ_neg_ℤ f (suc n) = ap (λ t. t +ℤ neg_ℤ (f n)) (Σ_neg_ℤ f n) ∙ minus (Σ f n) (f n)
   where
     minus : (a b : ℤ) → neg_ℤ a +ℤ neg_ℤ b ≡ neg_ℤ (a +ℤ b)
     minus = all2 _ (simp bridge (omega arith))
 
 pub Σ--ℤ : (f g : ℕ → ℤ) (n : ℕ) → Σ (λ k. f k -ℤ g k) n ≡ Σ f n -ℤ Σ g n
-Σ--ℤ f g n = Σ-+ℤ f (λ k. neg_ℤ (g k)) n ∙ ap (λ t. Σ f n +ℤ t) (Σ_negℤ g n)
+Σ--ℤ f g n = Σ-+ℤ f (λ k. neg_ℤ (g k)) n ∙ ap (λ t. Σ f n +ℤ t) (Σ_neg_ℤ g n)
 
 pub Σ_const : (c : ℤ) (n : ℕ) → Σ (λ k. c) n ≡ pos n *ℤ c
 unfolding Σ

@@ -15,9 +15,9 @@ unfoldable pub round : ℤ → ℕ → ℤ
 round p r = floor (pos 2 *ℤ p +ℤ pos r) (2 * r)
 
 -- the lesser of two
-unfoldable pub minℤ : ℤ → ℤ → ℤ
-minℤ x y = cond (le_z x y) x y
+unfoldable pub min_ℤ : ℤ → ℤ → ℤ
+min_ℤ x y = cond (le_z x y) x y
 
 -- the greater of two
-unfoldable pub maxℤ : ℤ → ℤ → ℤ
-maxℤ x y = cond (le_z x y) y x
+unfoldable pub max_ℤ : ℤ → ℤ → ℤ
+max_ℤ x y = cond (le_z x y) y x

@@ -9,7 +9,7 @@ use lib.Arith.{digits_div, digits_mod}
 use lib.IntN.{ℤ, pos, nat_abs}
 use lib.ListN.{length, take, drop, replicate, drop_of_length-le}
 use lib.Seq.{get_or-take}
-use Rattle.arith.specs.Whole.{minℤ, maxℤ}
+use Rattle.arith.specs.Whole.{min_ℤ, max_ℤ}
 use Rattle.lists.specs.declared.Extremes.{Extremes}
 use Rattle.lists.specs.Line.{Line, line}
 use Rattle.lists.specs.Ends.{smallest, largest, extremes_of}
@@ -179,13 +179,13 @@ module _ {W H D plane : ℕ} {set : Setting} {block : List ℤ} {places room : �
 
     pub smallest_over_lem : smallest_over s set block ≡ smallest (line result') size
     smallest_over_lem =
-        picked_same minℤ _ (λ i. smallest (group i) n) s.slices sides.2.0
+        picked_same min_ℤ _ (λ i. smallest (group i) n) s.slices sides.2.0
         (λ i l. smallest-rows s.columns s.rows (slice_rows s set block i) (group i) sides.0.0 sides.1.0 (λ k h. refl))
         ∙ smallest_groups sides.2.0 (mul-pos sides.0.0 sides.1.0) some_places cover
 
     pub largest_over_lem : largest_over s set block ≡ largest (line result') size
     largest_over_lem =
-        picked_same maxℤ _ (λ i. largest (group i) n) s.slices sides.2.0
+        picked_same max_ℤ _ (λ i. largest (group i) n) s.slices sides.2.0
         (λ i l. largest-rows s.columns s.rows (slice_rows s set block i) (group i) sides.0.0 sides.1.0 (λ k h. refl))
         ∙ largest_groups sides.2.0 (mul-pos sides.0.0 sides.1.0) some_places cover
 

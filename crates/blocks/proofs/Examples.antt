@@ -6,7 +6,7 @@ use mathlib.Core.List.{List, [], ◌∷◌, ◌++◌, map}
 use lib.Dec.{lit≤}
 use lib.IntN.{ℤ, pos, negsuc}
 use lib.ListN.{replicate}
-use Rattle.arith.specs.Whole.{floor, remainder, round, minℤ, maxℤ}
+use Rattle.arith.specs.Whole.{floor, remainder, round, min_ℤ, max_ℤ}
 use Rattle.arith.specs.Sum.{Σ}
 use Rattle.arith.specs.Move.{fraction, whole}
 use Rattle.lists.specs.Tab.{tab}
@@ -218,9 +218,9 @@ unfolding judged bad_sides bad_plane too_short short bad_centre bad_shears bad_k
 told = refl
 
 extremes_told : map (λ plane. smallest_of (answered plane) ∷ largest_of (answered plane) ∷ []) planes ≡ (pos 1 ∷ pos 7 ∷ []) ∷ (pos 1 ∷ pos 7 ∷ []) ∷ (pos 1 ∷ pos 6 ∷ []) ∷ []
-unfolding judged bad_sides bad_plane too_short short bad_centre bad_shears bad_kernel bad_background first_bad first_from beyond_of picked minℤ maxℤ straighten_block tab rows_moved bordered moved source mixed first weigh Σ wrap round whole floor remainder fraction
+unfolding judged bad_sides bad_plane too_short short bad_centre bad_shears bad_kernel bad_background first_bad first_from beyond_of picked min_ℤ max_ℤ straighten_block tab rows_moved bordered moved source mixed first weigh Σ wrap round whole floor remainder fraction
 extremes_told = refl
 
 extremes_over : map (λ plane. smallest_over (slices_of 2 2 2 plane) half eight ∷ largest_over (slices_of 2 2 2 plane) half eight ∷ []) planes ≡ (pos 1 ∷ pos 7 ∷ []) ∷ (pos 1 ∷ pos 7 ∷ []) ∷ (pos 1 ∷ pos 6 ∷ []) ∷ []
-unfolding slice_of picture pictured picked minℤ maxℤ tab rows_moved bordered moved source mixed first weigh Σ wrap round whole floor remainder fraction
+unfolding slice_of picture pictured picked min_ℤ max_ℤ tab rows_moved bordered moved source mixed first weigh Σ wrap round whole floor remainder fraction
 extremes_over = refl

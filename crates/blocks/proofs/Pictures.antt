@@ -12,7 +12,7 @@ use lib.ListN.{length, take, drop, length-take, length-drop, length-append, get_
 use lib.Seq.{ext_get_or, get_or-take, get_or-drop, get_or-append-add}
 use Rattle.lists.specs.Tab.{tab}
 use Rattle.lists.specs.Line.{line}
-use Rattle.arith.specs.Whole.{minℤ, maxℤ}
+use Rattle.arith.specs.Whole.{min_ℤ, max_ℤ}
 use Rattle.lists.specs.declared.Extremes.{Extremes}
 use Rattle.lists.specs.Ends.{extremes_of, joined_of, smallest_in_rows, largest_in_rows}
 use Rattle.lists.proofs.Ends.{picked_from, from_none, from_more, from_picked, smallest_is, largest_is, min_never, max_never, min_same, max_same, extreme_has, smallest-rows, largest-rows}
@@ -222,8 +222,8 @@ highs W H D set block i = largest_in_rows W H (slice_rows (slices_of W H D 0) se
 -- those of the first z pictures, begun from numbers that are never picked
 abbrev pub joined_up : ℕ → ℕ → ℕ → Setting → List ℤ → ℕ → Extremes
 joined_up W H D set block z = record {
-  smallest = picked_from minℤ (pos 1048576) (lows W H D set block) z;
-  largest = picked_from maxℤ (negsuc 1048575) (highs W H D set block) z;
+  smallest = picked_from min_ℤ (pos 1048576) (lows W H D set block) z;
+  largest = picked_from max_ℤ (negsuc 1048575) (highs W H D set block) z;
 }
 
 abbrev both : ℤ → ℤ → Extremes
@@ -231,12 +231,12 @@ both smallest largest = record { smallest = smallest; largest = largest }
 
 pub joined_none : (W H D : ℕ) (set : Setting) (block : List ℤ) → both (pos 1048576) (negsuc 1048575) ≡ joined_up W H D set block 0
 joined_none W H D set block =
-    ap₂ both (from_none minℤ (pos 1048576) (lows W H D set block)) (from_none maxℤ (negsuc 1048575) (highs W H D set block))
+    ap₂ both (from_none min_ℤ (pos 1048576) (lows W H D set block)) (from_none max_ℤ (negsuc 1048575) (highs W H D set block))
 
 pub joined_more : (W H D : ℕ) (set : Setting) (block : List ℤ) (z : ℕ)
     → joined_of (joined_up W H D set block z) (both (lows W H D set block z) (highs W H D set block z)) ≡ joined_up W H D set block (z + 1)
 joined_more W H D set block z =
-    ap₂ both (from_more minℤ (pos 1048576) (lows W H D set block) z) (from_more maxℤ (negsuc 1048575) (highs W H D set block) z)
+    ap₂ both (from_more min_ℤ (pos 1048576) (lows W H D set block) z) (from_more max_ℤ (negsuc 1048575) (highs W H D set block) z)
 
 module _ {W H D : ℕ} {set : Setting} {block : List ℤ} {places room : ℕ} (f : Fit W H D 0 set block places room) where
   abbrev first : List ℤ
@@ -255,8 +255,8 @@ module _ {W H D : ℕ} {set : Setting} {block : List ℤ} {places room : ℕ} (f
       → joined_up W H D set block D ≡ extremes_of (W * H * D) result'
   all-joined result result' done =
       rw (
-        from_picked minℤ (pos 1048576) (lows W H D set block) (min_never _ smallest_small) (min_same _) D f.depth.0 ∙ smallest_over_lem f result result' done,
-        from_picked maxℤ (negsuc 1048575) (highs W H D set block) (max_never _ largest_small) (max_same _) D f.depth.0 ∙ largest_over_lem f result result' done,
+        from_picked min_ℤ (pos 1048576) (lows W H D set block) (min_never _ smallest_small) (min_same _) D f.depth.0 ∙ smallest_over_lem f result result' done,
+        from_picked max_ℤ (negsuc 1048575) (highs W H D set block) (max_never _ largest_small) (max_same _) D f.depth.0 ∙ largest_over_lem f result result' done,
       )
       refl
     where

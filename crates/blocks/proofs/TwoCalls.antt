@@ -8,7 +8,7 @@ use lib.IntN.{ℤ, pos}
 use lib.ListN.{length, take, drop, length-take}
 use lib.Seq.{get_or-take}
 use lib.Signed.{◌≤ℤ◌}
-use Rattle.arith.specs.Whole.{minℤ, maxℤ}
+use Rattle.arith.specs.Whole.{min_ℤ, max_ℤ}
 use Rattle.lists.specs.Line.{line}
 use Rattle.lists.specs.Ends.{picked, smallest, largest, extremes_of}
 use Rattle.lists.proofs.Ends.{Extreme, picked_same, smallest_is, largest_is}
@@ -124,10 +124,10 @@ module _ {W H D plane : ℕ} {set : Setting} {block result work : List ℤ} {r :
   among R v w e d = subst (R v) (sym (d.there ∙ own_place d.place d.inside)) (e.each _ (own_inside d.place d.inside))
 
   own_smallest : single.smallest_of q ≡ smallest (line (slice_of s result' i)) n
-  own_smallest = told.0 ∙ own_picked minℤ
+  own_smallest = told.0 ∙ own_picked min_ℤ
 
   own_largest : single.largest_of q ≡ largest (line (slice_of s result' i)) n
-  own_largest = told.1 ∙ own_picked maxℤ
+  own_largest = told.1 ∙ own_picked max_ℤ
 
   block_smallest : smallest_of r ≡ smallest (line result') (W * H * D)
   block_smallest = ap smallest_of a.outcome ∙ rw (was_accepted a none) refl

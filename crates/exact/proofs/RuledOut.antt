@@ -10,7 +10,7 @@ use lib.Dec.{T, leb, leb→le, lit<}
 use lib.IntN.{ℤ, pos, negsuc, nat_abs, ◌-ℤ◌, ◌*ℤ◌}
 use lib.ListN.{replicate}
 use lib.Signed.{◌<ℤ◌}
-use Rattle.arith.specs.Whole.{floor, remainder, round, minℤ, maxℤ}
+use Rattle.arith.specs.Whole.{floor, remainder, round, min_ℤ, max_ℤ}
 use Rattle.arith.specs.Sum.{Σ}
 use Rattle.arith.specs.Move.{fraction, whole}
 use Rattle.arith.proofs.Bridge.{bridge, all1, all3}
@@ -104,13 +104,13 @@ flat_ruled_out g kept = apart g (keys_close (replicate 6 g) kept 1 (lit< tt)) (k
 
 -- samples held to 0 to 255 greys between passes
 abbrev hold : ℤ → ℤ
-hold x = maxℤ (pos 0) (minℤ x (pos 32640))
+hold x = max_ℤ (pos 0) (min_ℤ x (pos 32640))
 
 abbrev held_between : List ℤ
 held_between = rows_pass Wrapped Keys 3 2 rows (map hold (columns_pass Wrapped Keys 3 2 columns (map hold (rows_pass Wrapped Keys 3 2 rows samples))))
 
 pub held_ruled_out : Demand3 Wrapped Keys 3 2 rows columns samples held_between → ⊥
-unfolding floor remainder round minℤ maxℤ Σ fraction whole tab wrap weigh first mixed source moved bordered picture pictured rows_moved rows_pass columns_pass
+unfolding floor remainder round min_ℤ max_ℤ Σ fraction whole tab wrap weigh first mixed source moved bordered picture pictured rows_moved rows_pass columns_pass
 held_ruled_out kept = let far : 60 ≤ 4 = keys_close held_between kept 5 (lit< tt) in omega arith
 
 -- ---- Keys, 4 by 2 on background 7, rows 10 -20 30 40 and -40 50 -60 70, centre (0,0), A = 1,000, B = 3,000: straightened, 10 -1 5 7 and -30 -17 20 11

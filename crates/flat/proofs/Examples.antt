@@ -3,7 +3,7 @@ use mathlib.Core.Path.{◌≡◌, refl}
 use mathlib.Core.List.{List, [], ◌∷◌}
 use lib.IntN.{ℤ, pos, negsuc}
 use lib.Ieee.{binary32, round, of_bits}
-use Rattle.arith.specs.Whole.{minℤ, maxℤ}
+use Rattle.arith.specs.Whole.{min_ℤ, max_ℤ}
 use Rattle.lists.specs.Ends.{picked}
 use Rattle.refusals.specs.Tests.{bad_side, bad_size, short, beyond_of, first_from, first_bad}
 use Rattle.steps.specs.Step.{entry, S, sine_of}
@@ -51,7 +51,7 @@ reads_over = refl
 darkest_and_lightest :
     of_summary (summary_answer 3 1 three)
     ≡ record { number = 0; row = 0; column = 0; darkest = of_bits binary32 0xBF00_0000; lightest = of_bits binary32 0x4380_0000 }
-unfolding three summary_answer picked minℤ maxℤ float_of round of_bits judged judged_by bad_size bad_side short first_bad first_from beyond_of
+unfolding three summary_answer picked min_ℤ max_ℤ float_of round of_bits judged judged_by bad_size bad_side short first_bad first_from beyond_of
 darkest_and_lightest = refl
 
 -- a picture 2 wide and 2 high, whose first sample beyond ±1,048,576 is in row 1 and column 0

@@ -10,7 +10,7 @@ use borrow.Author.Tests.{le-ltb}
 use lib.Dec.{T, leb, leb→le}
 use lib.IntN.{ℤ, pos, negsuc, neg_ℤ, nat_abs}
 use lib.ListN.{length}
-use Rattle.arith.proofs.Laws.{nat_abs_negℤ}
+use Rattle.arith.proofs.Laws.{nat_abs_neg_ℤ}
 use Rattle.lists.proofs.Table.{every, at}
 use Rattle.lists.specs.Line.{line}
 use Rattle.settings.specs.declared.Border.TheVariants.{Wrapped}
@@ -43,13 +43,13 @@ entry_small t h = leb→le _ 4096 (at (λ t s. leb s 4096) sines every_small t h
 sine_small : (t : ℤ) → nat_abs t ≤ 1697 → nat_abs (S t) ≤ 4096
 unfolding S
 sine_small (pos t) h = entry_small t (omega arith)
-sine_small (negsuc t) h = rw (nat_abs_negℤ (pos (entry (suc t)))) (entry_small (suc t) (omega arith))
+sine_small (negsuc t) h = rw (nat_abs_neg_ℤ (pos (entry (suc t)))) (entry_small (suc t) (omega arith))
 
 shears_within : (l : List ℕ) → beyond (step_in l) ≡ false → bad_shears (setting_in l) ≡ false
 unfolding setting_in bad_shears
 shears_within l e =
     let h = beyond_good (step_in l) e in
-    let a : nat_abs (neg_ℤ (step_in l)) ≤ 4096 = rw (nat_abs_negℤ (step_in l)) (omega arith) in
+    let a : nat_abs (neg_ℤ (step_in l)) ≤ 4096 = rw (nat_abs_neg_ℤ (step_in l)) (omega arith) in
     rw (good_beyond (neg_ℤ (step_in l)) a, good_beyond (S (step_in l)) (sine_small (step_in l) h)) refl
 
 -- ---- the lowest number that applies

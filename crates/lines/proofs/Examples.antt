@@ -7,7 +7,7 @@ use Prim.Native.Nat.{ℕ}
 use lib.Dec.{lit≤}
 use lib.IntN.{ℤ, pos, negsuc}
 use lib.ListN.{replicate}
-use Rattle.arith.specs.Whole.{floor, remainder, round, minℤ, maxℤ}
+use Rattle.arith.specs.Whole.{floor, remainder, round, min_ℤ, max_ℤ}
 use Rattle.arith.specs.Sum.{Σ}
 use Rattle.arith.specs.Move.{fraction, whole}
 use Rattle.lists.specs.Tab.{tab}
@@ -153,5 +153,5 @@ extremes_of_outcomes :
     ∷ extremes (call 3 1 (pos 2048) Wrapped past 3 18) (pos 5 ∷ pos 6 ∷ pos 7 ∷ [])
     ∷ []
     ≡ (pos 500 ∷ pos 9500 ∷ []) ∷ (pos 0 ∷ pos 0 ∷ []) ∷ []
-unfolding outcome_of picked minℤ maxℤ move_in bordered moved source mixed first weigh Σ wrap tab round whole is_interpolated fraction_in gone far fraction remainder floor judged judged_by too_short bad_side short bad_kernel bad_background beyond_of first_bad first_from
+unfolding outcome_of picked min_ℤ max_ℤ move_in bordered moved source mixed first weigh Σ wrap tab round whole is_interpolated fraction_in gone far fraction remainder floor judged judged_by too_short bad_side short bad_kernel bad_background beyond_of first_bad first_from
 extremes_of_outcomes = refl

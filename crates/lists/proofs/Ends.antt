@@ -12,7 +12,7 @@ use lib.Arith.{digits_div, digits_mod}
 use lib.IntN.{ℤ, pos, negsuc, nat_abs, ◌+ℤ◌}
 use lib.ListN.{length, get_or-append}
 use lib.Signed.{◌≤ℤ◌}
-use Rattle.arith.specs.Whole.{minℤ, maxℤ}
+use Rattle.arith.specs.Whole.{min_ℤ, max_ℤ}
 use Rattle.arith.proofs.Bridge.{bridge, all1, all2, all3}
 use Rattle.arith.proofs.Laws.{≤ℤ_trans, ≤ℤ_antisym, ≤ℤ_total}
 use Rattle.lists.specs.Line.{Line, line}
@@ -24,11 +24,11 @@ abbrev six : List ℤ
 six = pos 7 ∷ pos 9 ∷ pos 5 ∷ negsuc 19 ∷ pos 6 ∷ pos 8 ∷ []
 
 three_of_six : extremes_of 3 six ≡ record { smallest = pos 5; largest = pos 9 }
-unfolding picked minℤ maxℤ
+unfolding picked min_ℤ max_ℤ
 three_of_six = refl
 
 over_two_rows : smallest_in_rows 3 2 (λ y x. line six (y * 3 + x)) ∷ largest_in_rows 3 2 (λ y x. line six (y * 3 + x)) ∷ [] ≡ negsuc 19 ∷ pos 9 ∷ []
-unfolding picked minℤ maxℤ
+unfolding picked min_ℤ max_ℤ
 over_two_rows = refl
 
 -- ---- the loop
@@ -70,7 +70,7 @@ picked_same of f g n some same = from n same
 
 -- those of the first n samples of a list are those of any list that begins with them
 pub extremes_first : (n : ℕ) (s t : List ℤ) → 1 ≤ n → n ≤ length s → extremes_of n (s ++ t) ≡ extremes_of n s
-extremes_first n s t some room = rw (by minℤ, by maxℤ) refl
+extremes_first n s t some room = rw (by min_ℤ, by max_ℤ) refl
   where
     by : (of : ℤ → ℤ → ℤ) → picked of (line (s ++ t)) n ≡ picked of (line s) n
     by of = picked_same of (line (s ++ t)) (line s) n some (λ k l. get_or-append s t (pos 0) k (omega arith))
@@ -107,56 +107,56 @@ module _ (of : ℤ → ℤ → ℤ) (R : ℤ → ℤ → Type 0) (R-trans : (x y
           (eq-or-lt_of_le (le_of_suc-le-suc l))
 
 -- ---- the pick of two
-pub min_left : (x y : ℤ) → minℤ x y ≤ℤ x
+pub min_left : (x y : ℤ) → min_ℤ x y ≤ℤ x
 min_left = all2 _ (simp bridge (omega arith))
 
-pub min_right : (x y : ℤ) → minℤ x y ≤ℤ y
+pub min_right : (x y : ℤ) → min_ℤ x y ≤ℤ y
 min_right = all2 _ (simp bridge (omega arith))
 
-min_low : (x y : ℤ) → x ≤ℤ y → minℤ x y ≡ x
+min_low : (x y : ℤ) → x ≤ℤ y → min_ℤ x y ≡ x
 min_low = all2 _ (simp bridge (omega arith))
 
-min_high : (x y : ℤ) → y ≤ℤ x → minℤ x y ≡ y
+min_high : (x y : ℤ) → y ≤ℤ x → min_ℤ x y ≡ y
 min_high = all2 _ (simp bridge (omega arith))
 
-pub max_left : (x y : ℤ) → x ≤ℤ maxℤ x y
+pub max_left : (x y : ℤ) → x ≤ℤ max_ℤ x y
 max_left = all2 _ (simp bridge (omega arith))
 
-pub max_right : (x y : ℤ) → y ≤ℤ maxℤ x y
+pub max_right : (x y : ℤ) → y ≤ℤ max_ℤ x y
 max_right = all2 _ (simp bridge (omega arith))
 
-max_low : (x y : ℤ) → x ≤ℤ y → maxℤ x y ≡ y
+max_low : (x y : ℤ) → x ≤ℤ y → max_ℤ x y ≡ y
 max_low = all2 _ (simp bridge (omega arith))
 
-max_high : (x y : ℤ) → y ≤ℤ x → maxℤ x y ≡ x
+max_high : (x y : ℤ) → y ≤ℤ x → max_ℤ x y ≡ x
 max_high = all2 _ (simp bridge (omega arith))
 
 -- ---- the smallest and the largest
 pub smallest_is : (f : Line) (n : ℕ) → 1 ≤ n → Extreme (λ x y. x ≤ℤ y) f n (smallest f n)
 smallest_is f zero h = absurd (not-suc-le-zero h)
-smallest_is f (suc n) h = picked_is minℤ (λ x y. x ≤ℤ y) (λ x y z h k. ≤ℤ_trans h k) min_left min_right either f n
+smallest_is f (suc n) h = picked_is min_ℤ (λ x y. x ≤ℤ y) (λ x y z h k. ≤ℤ_trans h k) min_left min_right either f n
   where
-    either : (x y : ℤ) → (minℤ x y ≡ x) ⊎ (minℤ x y ≡ y)
+    either : (x y : ℤ) → (min_ℤ x y ≡ x) ⊎ (min_ℤ x y ≡ y)
     either x y = ⊎_elim (λ h. inl (min_low x y h)) (λ h. inr (min_high x y h)) (≤ℤ_total x y)
 
 pub largest_is : (f : Line) (n : ℕ) → 1 ≤ n → Extreme (λ x y. y ≤ℤ x) f n (largest f n)
 largest_is f zero h = absurd (not-suc-le-zero h)
-largest_is f (suc n) h = picked_is maxℤ (λ x y. y ≤ℤ x) (λ x y z h k. ≤ℤ_trans k h) max_left max_right either f n
+largest_is f (suc n) h = picked_is max_ℤ (λ x y. y ≤ℤ x) (λ x y z h k. ≤ℤ_trans k h) max_left max_right either f n
   where
-    either : (x y : ℤ) → (maxℤ x y ≡ x) ⊎ (maxℤ x y ≡ y)
+    either : (x y : ℤ) → (max_ℤ x y ≡ x) ⊎ (max_ℤ x y ≡ y)
     either x y = ⊎_elim (λ h. inr (max_low x y h)) (λ h. inl (max_high x y h)) (≤ℤ_total x y)
 
 -- a number at the end of a range is never picked among numbers within it
-pub min_never : (v : ℤ) → nat_abs v ≤ 1048576 → minℤ (pos 1048576) v ≡ v
+pub min_never : (v : ℤ) → nat_abs v ≤ 1048576 → min_ℤ (pos 1048576) v ≡ v
 min_never = all1 _ (simp bridge (omega arith))
 
-pub max_never : (v : ℤ) → nat_abs v ≤ 1048576 → maxℤ (negsuc 1048575) v ≡ v
+pub max_never : (v : ℤ) → nat_abs v ≤ 1048576 → max_ℤ (negsuc 1048575) v ≡ v
 max_never = all1 _ (simp bridge (omega arith))
 
-pub min_same : (v : ℤ) → minℤ v v ≡ v
+pub min_same : (v : ℤ) → min_ℤ v v ≡ v
 min_same = all1 _ (simp bridge (omega arith))
 
-pub max_same : (v : ℤ) → maxℤ v v ≡ v
+pub max_same : (v : ℤ) → max_ℤ v v ≡ v
 max_same = all1 _ (simp bridge (omega arith))
 
 -- being one of the samples, it has what they all have
@@ -175,15 +175,15 @@ picked_plus of both c f g n some each = from n each
 
 module _ (c : ℤ) (f g : Line) (n : ℕ) (some : 1 ≤ n) (each : (k : ℕ) → k < n → g k ≡ f k +ℤ c) where
   pub smallest_plus : smallest g n ≡ smallest f n +ℤ c
-  smallest_plus = picked_plus minℤ both c f g n some each
+  smallest_plus = picked_plus min_ℤ both c f g n some each
     where
-      both : (x y c : ℤ) → minℤ (x +ℤ c) (y +ℤ c) ≡ minℤ x y +ℤ c
+      both : (x y c : ℤ) → min_ℤ (x +ℤ c) (y +ℤ c) ≡ min_ℤ x y +ℤ c
       both = all3 _ (simp bridge (omega arith))
 
   pub largest_plus : largest g n ≡ largest f n +ℤ c
-  largest_plus = picked_plus maxℤ both c f g n some each
+  largest_plus = picked_plus max_ℤ both c f g n some each
     where
-      both : (x y c : ℤ) → maxℤ (x +ℤ c) (y +ℤ c) ≡ maxℤ x y +ℤ c
+      both : (x y c : ℤ) → max_ℤ (x +ℤ c) (y +ℤ c) ≡ max_ℤ x y +ℤ c
       both = all3 _ (simp bridge (omega arith))
 
 -- ---- groups of one size, whose numbers are those of a line, in whatever order they stand there
@@ -236,10 +236,10 @@ module _ (of : ℤ → ℤ → ℤ) (R : ℤ → ℤ → Type 0) (R-trans : (x y
 
 module _ {groups : ℕ → Line} {m n : ℕ} {all : Line} {size : ℕ} (some-groups : 1 ≤ m) (some : 1 ≤ n) (many : 1 ≤ size) (c : Cover groups m n all size) where
   pub smallest_groups : smallest (λ i. smallest (groups i) n) m ≡ smallest all size
-  smallest_groups = picked_groups minℤ (λ x y. x ≤ℤ y) (λ x y z h k. ≤ℤ_trans h k) (λ x y h k. ≤ℤ_antisym h k) smallest_is some-groups some c many
+  smallest_groups = picked_groups min_ℤ (λ x y. x ≤ℤ y) (λ x y z h k. ≤ℤ_trans h k) (λ x y h k. ≤ℤ_antisym h k) smallest_is some-groups some c many
 
   pub largest_groups : largest (λ i. largest (groups i) n) m ≡ largest all size
-  largest_groups = picked_groups maxℤ (λ x y. y ≤ℤ x) (λ x y z h k. ≤ℤ_trans k h) (λ x y h k. ≤ℤ_antisym k h) largest_is some-groups some c many
+  largest_groups = picked_groups max_ℤ (λ x y. y ≤ℤ x) (λ x y z h k. ≤ℤ_trans k h) (λ x y h k. ≤ℤ_antisym k h) largest_is some-groups some c many
 
 -- ---- rows are groups, where they hold the samples of s one row after the other
 module _ (W H : ℕ) (rows : ℕ → Line) (s : Line) (hW : 1 ≤ W) (hH : 1 ≤ H) (same : (i : ℕ) → i < W * H → rows (i / W) (i % W) ≡ s i) where

@@ -2,7 +2,7 @@
 #![tactic(auto)]
 
 ghost use Rattle.std.specs.Prelude.{◌≡◌, ◌++◌, ℕ, ◌+◌, ◌*◌, ◌<◌, ◌≤◌, length, take, drop, replicate, pos};
-ghost use Rattle.arith.specs.Whole.{minℤ, maxℤ};
+ghost use Rattle.arith.specs.Whole.{min_ℤ, max_ℤ};
 ghost use Rattle.lists.specs.Line.{line, rolled};
 ghost use Rattle.lists.specs.Grid.{line_of, put};
 ghost use Rattle.lists.specs.Ends.{extremes_of, joined_of};
@@ -99,14 +99,14 @@ pub fn store_line(
 
 // The lesser of two samples.
 fn lesser(a: i32, b: i32) -> i32
-    ensures { result ≡ minℤ a b }
+    ensures { result ≡ min_ℤ a b }
 {
     if a <= b { a } else { b }
 }
 
 // The greater of two samples.
 fn greater(a: i32, b: i32) -> i32
-    ensures { result ≡ maxℤ a b }
+    ensures { result ≡ max_ℤ a b }
 {
     if a <= b { b } else { a }
 }

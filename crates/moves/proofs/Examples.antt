@@ -7,7 +7,7 @@ use native.Mathlib.Omega.{arith}
 use lib.Dec.{lit<}
 use lib.IntN.{ℤ, pos, negsuc, ◌+ℤ◌}
 use lib.Signed.{◌≤ℤ◌}
-use Rattle.arith.specs.Whole.{floor, remainder, round, minℤ, maxℤ}
+use Rattle.arith.specs.Whole.{floor, remainder, round, min_ℤ, max_ℤ}
 use Rattle.arith.specs.Sum.{Σ}
 use Rattle.arith.specs.Move.{fraction, whole}
 use Rattle.lists.specs.Tab.{tab}
@@ -29,7 +29,7 @@ pair = pos 3 ∷ pos 10 ∷ []
 ranges :
     map (λ (β : Border). lowest β 2 pair ∷ highest β 2 pair ∷ []) (Wrapped ∷ Background (negsuc 4) ∷ Background (pos 7) ∷ Background (pos 100) ∷ [])
     ≡ (pos 3 ∷ pos 10 ∷ []) ∷ (negsuc 4 ∷ pos 10 ∷ []) ∷ (pos 3 ∷ pos 10 ∷ []) ∷ (pos 3 ∷ pos 100 ∷ []) ∷ []
-unfolding picked minℤ maxℤ
+unfolding picked min_ℤ max_ℤ
 ranges = refl
 
 -- moved by half a sample on background 100, a line takes half of it: the range of the samples alone is left under linear too
@@ -41,7 +41,7 @@ unfolding floor remainder round Σ fraction whole tab wrap weigh first mixed sou
 two_moved = refl
 
 pub samples_alone_left : InRange Wrapped 2 two (move_in (Background (pos 100)) Linear (pos 2048) two) → ⊥
-unfolding picked minℤ maxℤ
+unfolding picked min_ℤ max_ℤ
 samples_alone_left within = (subst (λ (t : List ℤ). line t 0 ≤ℤ pos 10) two_moved (within 0 (lit< tt)).1).le
 
 -- with 10 added to the samples and to the background, 10 is added to the moved line; with the background left at 100, 5 to its first sample
@@ -63,7 +63,7 @@ unfolding floor remainder round Σ fraction whole tab wrap weigh first mixed sou
 keys_peak = refl
 
 pub keys_overshoots : KeepsRange Keys → ⊥
-unfolding picked minℤ
+unfolding picked min_ℤ
 keys_overshoots keeps = (subst (λ (t : List ℤ). pos 0 ≤ℤ line t 0) keys_peak (keeps Wrapped (negsuc 2047) peak 0 (lit< tt)).0).le
 
 abbrev edge : List ℤ
@@ -74,7 +74,7 @@ unfolding floor remainder round Σ fraction whole tab wrap weigh filter run u do
 spline_edge = refl
 
 pub spline_overshoots : KeepsRange Spline → ⊥
-unfolding picked minℤ
+unfolding picked min_ℤ
 spline_overshoots keeps = (subst (λ (t : List ℤ). pos 0 ≤ℤ line t 1) spline_edge (keeps Wrapped (pos 2048) edge 1 (lit< tt)).0).le
 
 -- ---- a number added under the spline: half-way between 5 and 0 lies 5/2, and half-way between 6 and 1 lies 7/2; the coefficients' rounding takes the

@@ -9,7 +9,7 @@ use native.Mathlib.Omega.{arith}
 use lib.IntN.{ℤ, pos, nat_abs, neg_ℤ, ◌+ℤ◌, ◌*ℤ◌, *ℤ_comm}
 use lib.ListN.{length}
 use lib.Signed.{◌≤ℤ◌}
-use Rattle.arith.specs.Whole.{round, minℤ, maxℤ}
+use Rattle.arith.specs.Whole.{round, min_ℤ, max_ℤ}
 use Rattle.arith.specs.Sum.{Σ}
 use Rattle.arith.specs.Move.{fraction}
 use Rattle.arith.proofs.Bridge.{bridge, all3}
@@ -68,10 +68,10 @@ range_within β n s M some each plain = by β plain
     largest_within : largest (line s) n ≤ℤ pos M
     largest_within = extreme_has _ (λ v. v ≤ℤ pos M) (line s) n _ (largest_is (line s) n some) (λ k l. (size_within (line s k) M (each k l)).1)
 
-    lower : (low x y : ℤ) → low ≤ℤ x → low ≤ℤ y → low ≤ℤ minℤ x y
+    lower : (low x y : ℤ) → low ≤ℤ x → low ≤ℤ y → low ≤ℤ min_ℤ x y
     lower = all3 _ (simp bridge (omega arith))
 
-    higher : (x y high : ℤ) → x ≤ℤ high → y ≤ℤ high → maxℤ x y ≤ℤ high
+    higher : (x y high : ℤ) → x ≤ℤ high → y ≤ℤ high → max_ℤ x y ≤ℤ high
     higher = all3 _ (simp bridge (omega arith))
 
     by : (β : Border) → nat_abs (grey β) ≤ M → (neg_ℤ (pos M) ≤ℤ lowest β n s) × (highest β n s ≤ℤ pos M)

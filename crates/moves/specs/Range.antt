@@ -1,6 +1,6 @@
 -- What document 02 says of the linear kernel's range, and of one number added to all samples (Q-12). Assumes nothing.
 use Rattle.std.specs.Prelude.{◌≡◌, List, ℕ, ◌≤◌, ◌<◌, ℤ, nat_abs, ◌+ℤ◌, ◌-ℤ◌, length, ◌≤ℤ◌}
-use Rattle.arith.specs.Whole.{minℤ, maxℤ}
+use Rattle.arith.specs.Whole.{min_ℤ, max_ℤ}
 use Rattle.lists.specs.Line.{line}
 use Rattle.lists.specs.Ends.{smallest, largest}
 use Rattle.settings.specs.declared.Border.{Border}
@@ -11,11 +11,11 @@ use Rattle.moves.specs.Border.{move_in}
 -- the smallest and the largest of the first n samples of a list, with the background among them where that border is set
 abbrev pub lowest : Border → ℕ → List ℤ → ℤ
 lowest Wrapped n s = smallest (line s) n
-lowest (Background b) n s = minℤ (smallest (line s) n) b
+lowest (Background b) n s = min_ℤ (smallest (line s) n) b
 
 abbrev pub highest : Border → ℕ → List ℤ → ℤ
 highest Wrapped n s = largest (line s) n
-highest (Background b) n s = maxℤ (largest (line s) n) b
+highest (Background b) n s = max_ℤ (largest (line s) n) b
 
 abbrev pub Between : ℤ → ℤ → ℤ → Type 0
 Between low high v = (low ≤ℤ v) × (v ≤ℤ high)

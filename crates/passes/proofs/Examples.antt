@@ -8,7 +8,7 @@ use native.Mathlib.Omega.{arith}
 use lib.Dec.{lit<}
 use lib.IntN.{ℤ, pos, negsuc, ◌+ℤ◌}
 use lib.Signed.{◌≤ℤ◌}
-use Rattle.arith.specs.Whole.{floor, remainder, round, minℤ}
+use Rattle.arith.specs.Whole.{floor, remainder, round, min_ℤ}
 use Rattle.arith.specs.Sum.{Σ}
 use Rattle.arith.specs.Move.{fraction, whole}
 use Rattle.lists.specs.Tab.{tab}
@@ -112,7 +112,7 @@ unfolding floor remainder round Σ fraction whole tab wrap weigh first mixed sou
 keys_peak = halfway Keys 4 peak (pos 0 ∷ negsuc 0 ∷ pos 0 ∷ pos 9 ∷ pos 0 ∷ pos 9 ∷ pos 0 ∷ negsuc 0 ∷ []) (lit< tt) refl refl refl
 
 pub keys_overshoots : InRange Wrapped 8 peak (straighten Wrapped Keys 2 4 still half peak) → ⊥
-unfolding picked minℤ
+unfolding picked min_ℤ
 keys_overshoots within = (subst (λ (t : List ℤ). pos 0 ≤ℤ line t 1) keys_peak (within 1 (lit< tt)).0).le
 
 abbrev edge : List ℤ
@@ -123,7 +123,7 @@ unfolding floor remainder round Σ fraction whole tab wrap weigh filter run u do
 spline_edge = halfway Spline 3 edge (pos 0 ∷ negsuc 24 ∷ pos 0 ∷ pos 62 ∷ pos 0 ∷ pos 62 ∷ []) (lit< tt) refl refl refl
 
 pub spline_overshoots : InRange Wrapped 6 edge (straighten Wrapped Spline 2 3 still half edge) → ⊥
-unfolding picked minℤ
+unfolding picked min_ℤ
 spline_overshoots within = (subst (λ (t : List ℤ). pos 0 ≤ℤ line t 1) spline_edge (within 1 (lit< tt)).0).le
 
 -- and where 1 is added to every sample, the spline adds 2 to column 1

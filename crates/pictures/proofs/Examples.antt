@@ -4,7 +4,7 @@ use mathlib.Core.Path.{◌≡◌, refl}
 use mathlib.Core.List.{List, [], ◌∷◌, ◌++◌, map}
 use lib.IntN.{ℤ, pos, negsuc}
 use lib.ListN.{replicate}
-use Rattle.arith.specs.Whole.{floor, remainder, round, minℤ, maxℤ}
+use Rattle.arith.specs.Whole.{floor, remainder, round, min_ℤ, max_ℤ}
 use Rattle.arith.specs.Sum.{Σ}
 use Rattle.arith.specs.Move.{fraction, whole}
 use Rattle.lists.specs.Tab.{tab}
@@ -63,11 +63,11 @@ abbrev extremes : Outcome → List ℤ
 extremes o = smallest_of o ∷ largest_of o ∷ []
 
 result_extremes : extremes (answered 32768) ∷ extremes (answered 5000) ∷ [] ≡ (pos 0 ∷ pos 0 ∷ []) ∷ (pos 1459 ∷ pos 6419 ∷ []) ∷ []
-unfolding picked minℤ maxℤ straighten pictured picture rows_moved bordered moved source mixed first weigh Σ wrap tab round whole judged_on bad_size bad_side too_short short bad_centre bad_shears bad_kernel bad_background first_bad first_from beyond_of floor remainder fraction gone fraction_in interpolated count
+unfolding picked min_ℤ max_ℤ straighten pictured picture rows_moved bordered moved source mixed first weigh Σ wrap tab round whole judged_on bad_size bad_side too_short short bad_centre bad_shears bad_kernel bad_background first_bad first_from beyond_of floor remainder fraction gone fraction_in interpolated count
 result_extremes = refl
 
 rows_extremes : smallest_in_rows 3 2 (third_rows 3 2 asked (samples 5000)) ∷ largest_in_rows 3 2 (third_rows 3 2 asked (samples 5000)) ∷ [] ≡ pos 1459 ∷ pos 6419 ∷ []
-unfolding picked minℤ maxℤ picture rows_moved bordered moved source mixed first weigh Σ wrap round whole floor remainder fraction
+unfolding picked min_ℤ max_ℤ picture rows_moved bordered moved source mixed first weigh Σ wrap round whole floor remainder fraction
 rows_extremes = refl
 
 -- a picture of 2 by 9 with centre (0,0) and A = 1,000: wrapped, its rows 1 to 8 are interpolated twice; on background row 8 moves by less than

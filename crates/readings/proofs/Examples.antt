@@ -3,7 +3,7 @@ use mathlib.Core.Path.{◌≡◌, refl}
 use mathlib.Core.List.{List, [], ◌∷◌, map}
 use lib.IntN.{ℤ, pos, negsuc}
 use lib.Ieee.{binary32, round, to_bits, of_bits}
-use Rattle.arith.specs.Whole.{floor, minℤ, maxℤ}
+use Rattle.arith.specs.Whole.{floor, min_ℤ, max_ℤ}
 use Rattle.lists.specs.Ends.{picked}
 use Rattle.refusals.specs.declared.Verdict.TheVariants.{Accepted, Refused}
 use Rattle.refusals.specs.Tests.{bad_side, bad_size, short, beyond_of, first_from, first_bad}
@@ -15,12 +15,12 @@ use Rattle.readings.specs.Answers.{judged_by, judged, outside, judged_point, rea
 -- greys of -65, -64, 63, 64, 32,640 and 32,704: 64 units are the first of grey 1, and a grey is held to 0 to 255
 greys_at_the_borders :
     map grey_of (negsuc 64 ∷ negsuc 63 ∷ pos 63 ∷ pos 64 ∷ pos 32640 ∷ pos 32704 ∷ []) ≡ 0 ∷ 0 ∷ 0 ∷ 1 ∷ 255 ∷ 255 ∷ []
-unfolding grey_of floor minℤ maxℤ
+unfolding grey_of floor min_ℤ max_ℤ
 greys_at_the_borders = refl
 
 -- greys of 1,920 and 30,208: one darker than video black and one lighter than video white are kept
 greys_beyond_video : map grey_of (pos 1920 ∷ pos 30208 ∷ []) ≡ 15 ∷ 236 ∷ []
-unfolding grey_of floor minℤ maxℤ
+unfolding grey_of floor min_ℤ max_ℤ
 greys_beyond_video = refl
 
 -- the bits of 1/128 and of -8,192
@@ -79,7 +79,7 @@ six = pos 384 ∷ pos 40960 ∷ negsuc 63 ∷ pos 0 ∷ negsuc 127 ∷ pos 128 �
 
 darkest_and_lightest :
     summary_answer 3 2 six ≡ record { verdict = Accepted; summary = record { darkest = of_bits binary32 0xBF80_0000; lightest = of_bits binary32 0x43A0_0000 } }
-unfolding six summary_answer picked minℤ maxℤ float_of round of_bits judged judged_by bad_size bad_side short first_bad first_from beyond_of
+unfolding six summary_answer picked min_ℤ max_ℤ float_of round of_bits judged judged_by bad_size bad_side short first_bad first_from beyond_of
 darkest_and_lightest = refl
 
 -- column 2 and row 0 of it, half a grey below 0: Under by 16 and a half

@@ -4,7 +4,7 @@ use Rattle.std.specs.Int.Signed.{lt_z, non_neg}
 use Rattle.std.specs.Float.Ieee as Ieee
 use Rattle.std.specs.Float.{binary32}
 use Rattle.std.specs.Float.Ieee.Exact.{HasValue}
-use Rattle.arith.specs.Whole.{floor, minℤ, maxℤ}
+use Rattle.arith.specs.Whole.{floor, min_ℤ, max_ℤ}
 use Rattle.readings.specs.declared.Reading.{Reading}
 use Rattle.readings.specs.declared.Reading.TheVariants.{Level, Under, Over}
 
@@ -14,7 +14,7 @@ half_grey = 64
 
 -- a grey of a byte: (v + 64)/128 rounded down, held to 0 to 255
 unfoldable pub grey_of : ℤ → ℕ
-grey_of v = nat_abs (maxℤ (pos 0) (minℤ (pos 255) (floor (v +ℤ pos half_grey) 128)))
+grey_of v = nat_abs (max_ℤ (pos 0) (min_ℤ (pos 255) (floor (v +ℤ pos half_grey) 128)))
 
 -- v/128 as a 32-bit float: the one nearest to |v|/128, with the sign of v
 unfoldable pub float_of : ℤ → Float

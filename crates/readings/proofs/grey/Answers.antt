@@ -6,7 +6,7 @@ use lib.IntN.{ℤ, pos, nat_abs, ◌+ℤ◌}
 use lib.Signed.{◌≤ℤ◌, ◌<ℤ◌, yes_non_neg}
 use mir.Syntax.{w32}
 use mir.Val.{SFits}
-use Rattle.arith.specs.Whole.{floor, minℤ, maxℤ}
+use Rattle.arith.specs.Whole.{floor, min_ℤ, max_ℤ}
 use Rattle.arith.proofs.Bridge.{bridge, all1}
 use Rattle.arith.proofs.Compute.{Code, Ranges, arg, num, shr, ◌+ᵐ◌, run, need, value}
 use Rattle.arith.proofs.Machine.{lt-true, lt-false}
@@ -31,13 +31,13 @@ module _ (v : ℤ) (f : SFits w32 v) (h : nat_abs v ≤ range) where
   g_is = value (quotient v) ranges ∙ shr-floor (v +ℤ pos half_grey) 128
 
 -- held to 0 to 255
-held_low : (g : ℤ) → g <ℤ pos 0 → 0 ≡ nat_abs (maxℤ (pos 0) (minℤ (pos 255) g))
+held_low : (g : ℤ) → g <ℤ pos 0 → 0 ≡ nat_abs (max_ℤ (pos 0) (min_ℤ (pos 255) g))
 held_low = all1 _ (simp bridge (omega arith))
 
-held_high : (g : ℤ) → pos 255 <ℤ g → 255 ≡ nat_abs (maxℤ (pos 0) (minℤ (pos 255) g))
+held_high : (g : ℤ) → pos 255 <ℤ g → 255 ≡ nat_abs (max_ℤ (pos 0) (min_ℤ (pos 255) g))
 held_high = all1 _ (simp bridge (omega arith))
 
-held_as_is : (g : ℤ) → pos 0 ≤ℤ g → g ≤ℤ pos 255 → nat_abs g ≡ nat_abs (maxℤ (pos 0) (minℤ (pos 255) g))
+held_as_is : (g : ℤ) → pos 0 ≤ℤ g → g ≤ℤ pos 255 → nat_abs g ≡ nat_abs (max_ℤ (pos 0) (min_ℤ (pos 255) g))
 held_as_is = all1 _ (simp bridge (omega arith))
 
 byte : (g : ℤ) → pos 0 ≤ℤ g → g ≤ℤ pos 255 → nat_abs g ≤ 255
