@@ -3,9 +3,8 @@ use Rattle.exports.proofs.straightener_ask.Goals as goal
 
 pub returns : goal.returns
 returns c =
-    let a = c in
     record {
-      outcome = a.ask.result;
-      promised = rw a.setting_of.ensures at a.ask.ensures;
+      outcome = c.ask.result;
+      promised = rw c.setting_of.ensures at c.ask.ensures;
       answer = c.of_asked.ensures;
     }

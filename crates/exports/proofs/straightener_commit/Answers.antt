@@ -3,9 +3,8 @@ use Rattle.exports.proofs.straightener_commit.Goals as goal
 
 pub returns : goal.returns
 returns c =
-    let m = c in
     record {
-      outcome = m.commit.result;
-      promised = rw m.ticket_of.ensures at m.commit.ensures;
+      outcome = c.commit.result;
+      promised = rw c.ticket_of.ensures at c.commit.ensures;
       answer = c.of_outcome.ensures;
     }

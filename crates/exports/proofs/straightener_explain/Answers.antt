@@ -4,9 +4,8 @@ use Rattle.exports.proofs.straightener_explain.Goals as goal
 
 pub returns : goal.returns
 returns c =
-    let e = c in
     record {
-      outcome = e.explain.result;
-      promised = rw (to_z-of_z e.ranges.d) at e.explain.ensures;
+      outcome = c.explain.result;
+      promised = rw (to_z-of_z c.ranges.d) at c.explain.ensures;
       answer = c.of_explanation.ensures;
     }

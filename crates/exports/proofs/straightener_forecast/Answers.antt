@@ -5,5 +5,4 @@ use Rattle.exports.proofs.straightener_forecast.Goals as goal
 
 pub returns : goal.returns
 returns c =
-    let f = c in
-    c.of_forecast.ensures ∙ ap of_forecast (rw f.setting_of.ensures at f.forecast.ensures)
+    c.of_forecast.ensures ∙ ap of_forecast (rw c.setting_of.ensures at c.forecast.ensures)

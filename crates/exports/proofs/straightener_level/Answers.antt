@@ -4,10 +4,9 @@ use Rattle.exports.proofs.straightener_level.Goals as goal
 
 pub returns : goal.returns
 returns c =
-    let l = c in
-    let f = l.ranges in
+    let f = c.ranges in
     record {
-      outcome = l.level.result;
-      promised = rw (to_z-of_z f.x1, to_z-of_z f.y1, to_z-of_z f.x2, to_z-of_z f.y2) at l.level.ensures;
+      outcome = c.level.result;
+      promised = rw (to_z-of_z f.x1, to_z-of_z f.y1, to_z-of_z f.x2, to_z-of_z f.y2) at c.level.ensures;
       answer = c.of_levelled.ensures;
     }

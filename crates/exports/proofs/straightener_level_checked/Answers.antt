@@ -4,10 +4,9 @@ use Rattle.exports.proofs.straightener_level_checked.Goals as goal
 
 pub returns : goal.returns
 returns c =
-    let l = c in
-    let f = l.ranges in
+    let f = c.ranges in
     record {
-      outcome = l.level_checked.result;
-      promised = rw (to_z-of_z f.x1, to_z-of_z f.y1, to_z-of_z f.x2, to_z-of_z f.y2, to_z-of_z f.threshold) at l.level_checked.ensures;
+      outcome = c.level_checked.result;
+      promised = rw (to_z-of_z f.x1, to_z-of_z f.y1, to_z-of_z f.x2, to_z-of_z f.y2, to_z-of_z f.threshold) at c.level_checked.ensures;
       answer = c.of_checked.ensures;
     }

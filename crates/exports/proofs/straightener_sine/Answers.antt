@@ -4,9 +4,8 @@ use Rattle.exports.proofs.straightener_sine.Goals as goal
 
 pub returns : goal.returns
 returns c =
-    let s = c in
     record {
-      outcome = s.sine.result;
-      promised = rw (to_z-of_z s.ranges.t) at s.sine.ensures;
+      outcome = c.sine.result;
+      promised = rw (to_z-of_z c.ranges.t) at c.sine.ensures;
       answer = c.of_sine.ensures;
     }

@@ -3,9 +3,8 @@ use Rattle.exports.proofs.straightener_straighten.Goals as goal
 
 pub returns : goal.returns
 returns c =
-    let m = c in
     record {
-      outcome = m.straighten.result;
-      promised = rw m.setting_of.ensures at m.straighten.ensures;
+      outcome = c.straighten.result;
+      promised = rw c.setting_of.ensures at c.straighten.ensures;
       answer = c.of_outcome.ensures;
     }

@@ -7,6 +7,4 @@ use Rattle.exports.proofs.straightener_with_centre.Goals as goal
 
 pub returns : goal.returns
 returns c =
-    let w = c in
-    let s = w in
-    c.laid_as.ensures ∙ ap (laid_as s.args.setting) (w.with_centre.ensures ∙ ap (λ (t : Setting). with_centre t s.args.cx s.args.cy) w.setting_of-before.ensures)
+    c.laid_as.ensures ∙ ap (laid_as c.args.setting) (c.with_centre.ensures ∙ ap (λ (t : Setting). with_centre t c.args.cx c.args.cy) c.setting_of-before.ensures)

@@ -7,6 +7,4 @@ use Rattle.exports.proofs.straightener_with_kernel.Goals as goal
 
 pub returns : goal.returns
 returns c =
-    let w = c in
-    let s = w in
-    c.laid_as.ensures ∙ ap (laid_as s.args.setting) (w.with_kernel.ensures ∙ ap (λ (t : Setting). with_kernel t s.args.kernel) w.setting_of-before.ensures)
+    c.laid_as.ensures ∙ ap (laid_as c.args.setting) (c.with_kernel.ensures ∙ ap (λ (t : Setting). with_kernel t c.args.kernel) c.setting_of-before.ensures)

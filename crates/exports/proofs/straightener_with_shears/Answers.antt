@@ -8,7 +8,5 @@ use Rattle.exports.proofs.straightener_with_shears.Goals as goal
 
 pub returns : goal.returns
 returns c =
-    let w = c in
-    let s = w in
-    let e = rw (to_z-of_z s.ranges.a, to_z-of_z s.ranges.b) at w.with_shears.ensures in
-    c.laid_as.ensures ∙ ap (laid_as s.args.setting) (e ∙ ap (λ (t : Setting). with_shears t s.args.a s.args.b) w.setting_of-before.ensures)
+    let e = rw (to_z-of_z c.ranges.a, to_z-of_z c.ranges.b) at c.with_shears.ensures in
+    c.laid_as.ensures ∙ ap (laid_as c.args.setting) (e ∙ ap (λ (t : Setting). with_shears t c.args.a c.args.b) c.setting_of-before.ensures)

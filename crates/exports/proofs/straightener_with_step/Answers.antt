@@ -7,8 +7,5 @@ use Rattle.exports.proofs.straightener_with_step.Goals as goal
 
 pub returns : goal.returns
 returns c =
-    let w = c in
-    let f = w in
-    let s = f in
     c.of_change.ensures
-    ∙ ap (of_change s.args.setting) (w.with_step.ensures ∙ ap₂ change_of f.setting_of.ensures (to_z-of_z s.ranges.t))
+    ∙ ap (of_change c.args.setting) (c.with_step.ensures ∙ ap₂ change_of c.setting_of.ensures (to_z-of_z c.ranges.t))

@@ -13,5 +13,4 @@ another (suc n) b h = refl
 
 pub returns : goal.returns
 returns c =
-    let s = c in
-    ap Background (to_z-of_z s.ranges.background) ∙ another s.args.border s.args.background c.if-border-eq0.false
+    ap Background (to_z-of_z c.ranges.background) ∙ another c.args.border c.args.background c.if-border-eq0.false

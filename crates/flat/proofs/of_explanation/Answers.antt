@@ -6,7 +6,6 @@ use Rattle.flat.proofs.of_explanation.Goals as goal
 
 pub returns : goal.returns
 returns c =
-    let v = c in
-    let p = v.args.explanation.parts in
+    let p = c.args.explanation.parts in
     let fits = c.struct_told-1.given.1 in
-    rw (v.of_verdict-judged.ensures, read_back w64 p.sum fits.0.1, read_back w64 p.divisor fits.1.0.1, read_back w32 p.quotient fits.1.1.0.1) refl
+    rw (c.of_verdict-judged.ensures, read_back w64 p.sum fits.0.1, read_back w64 p.divisor fits.1.0.1, read_back w32 p.quotient fits.1.1.0.1) refl

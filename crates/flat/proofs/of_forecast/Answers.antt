@@ -6,5 +6,4 @@ use Rattle.flat.proofs.of_forecast.Goals as goal
 
 pub returns : goal.returns
 returns c =
-    let v = c in
-    rw (v.of_verdict-judged.ensures, read_back w32 v.args.told.figures.bound c.struct_told-1.given.1.1.0.1) refl
+    rw (c.of_verdict-judged.ensures, read_back w32 c.args.told.figures.bound c.struct_told-1.given.1.1.0.1) refl
