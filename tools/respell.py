@@ -18,8 +18,16 @@ DECLARED = re.compile(r"^(\s*)((?:unfoldable |abbrev |pub |data |record )*)([^\s
 PLAIN = re.compile(r"[^\W\d_][\w']*", re.UNICODE)
 # Words of plain English that some function of src/ has as its name: beside them a dash joins nothing.
 WORDS = set("after across at down in least most of on one own prior spread there up wide within".split())
-# Fields that would have the name of a definition which stands beside them.
-OTHERWISE = {"accepted-text": "text_accepted", "other-size": "size_other", "work-places": "work_places_lent", "rows-moved": "rows_moved"}
+# Names that the rule alone would spell less well, or like another that stands beside them.
+OTHERWISE = {
+    "accepted-text": "text_accepted",
+    "change-back-1698": "change_back_1698",
+    "far-rows-not-counted": "far_rows_not_counted",
+    "other-size": "size_other",
+    "rows-moved": "rows_moved",
+    "two-raised-moved": "two_raised_moved",
+    "work-places": "work_places_lent",
+}
 ANSWER = re.compile(r" : (?:tie\.|\{M : Type 1\} → statement M)")
 LIBRARY = set(
     "min max length take drop set map reverse sum get_or replicate pos negsuc nat_abs neg_ℤ to_z of_z floor round remainder fraction zero suc mul add sub div mod quot rem "
@@ -90,10 +98,10 @@ def table():
         new = respelled(name, name in fields, names)
         if new != name:
             made[name] = new
-    made.update(OTHERWISE)
+    made.update({name: new for name, new in OTHERWISE.items() if name in specs | proofs | fields})
     taken = collections.Counter(made.values())
     for name, new in made.items():
-        if taken[new] > 1 and "-" in name:  # a lemma beside the definition of its name
+        if taken[new] > 1 and "-" in name and name not in OTHERWISE:  # a lemma beside the definition of its name
             made[name] = new + "_lem"
     return made
 
