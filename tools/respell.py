@@ -3,10 +3,10 @@
 
 usage: respell.py [--table FILE]      at the top of the repository; run once, after the kit's own script
 
-A name that some file of specs/ or proofs/ declares is respelled where it stands: in .antt files, in the clauses, imports and comments of
-.rt files, and in must-fail edits. `weightedSum` becomes `weighted_sum`. A dash stays where it joins two names (a definition of specs/, a
+A name that some file of specs/ or proofs/ declares is respelled where it stands: in .antt files and in the clauses, imports and comments of
+.rt files. `weightedSum` becomes `weighted_sum`. A dash stays where it joins two names (a definition of specs/, a
 function of src/, a word of the library, an operator) and becomes `_` beside a plain word, as in `kept_in_place`; a record's field has `_`
-alone. Types, modules, the symbols D, P, S, W and the names of src/ stay. Names that would fall together are said, and nothing is written.
+alone. Types, modules, the symbols D, P, S, W and the names of src/ stay. Names that may fall together are said: look at them.
 """
 import collections
 import glob
