@@ -26,10 +26,10 @@ kit:
 # The kit names an archive after its crate, and the program has the library's name. The moves come last, so that what is half made is
 # never taken for the library.
 library: kit
-	cd crates/exports && rt lib
+	cd crates/exports_c && rt lib
 	mkdir -p $(MADE)
 	cp include/straightener.h $(MADE)/header.new
-	cp crates/exports/out/libexports.a $(MADE)/archive.new
+	cp crates/exports_c/out/libexports_c.a $(MADE)/archive.new
 	mv $(MADE)/header.new $(MADE)/straightener.h
 	mv $(MADE)/archive.new $(MADE)/libstraightener.a
 

@@ -1,5 +1,5 @@
-// The public calls as C and Rust link them. A slice is a pointer and a length, a struct goes by value, and what the call beneath answers as
-// an enum, or takes as one, is laid out flat. include/straightener.h says what each argument means, in which unit, and what each number says.
+// The public calls as C and Rust link them, under their names there: a struct goes by value, and what the call beneath answers as an enum, or takes as
+// one, is laid out flat. `exports_c` gives them to C. include/straightener.h says what each argument means, in which unit, and what each number says.
 #![tactic(auto)]
 
 ghost use Rattle.std.specs.Prelude.{◌≡◌};
@@ -7,7 +7,7 @@ ghost use Rattle.pictures.specs.Answer.{Answer as PictureStraightened};
 ghost use Rattle.tickets.specs.Ticket.{Asking, Committed};
 ghost use Rattle.forecasts.specs.Figures.{forecast_of};
 ghost use Rattle.blocks.specs.Answer.{Answer as BlockStraightened};
-ghost use Rattle.blocks.specs.Judge.{work_places as blockWorkPlaces};
+ghost use Rattle.blocks.specs.Judge.{work_places as block_work_places};
 ghost use Rattle.lines.specs.Answer.{LineMoved};
 ghost use Rattle.lines.specs.Answer as line;
 ghost use Rattle.explanations.specs.Answer.{Explained};
@@ -29,8 +29,7 @@ use flat::{
 };
 
 // Straightens a picture.
-#[unsafe(no_mangle)]
-pub extern "C" fn straightener_straighten(
+pub fn straightener_straighten(
     width: usize,
     height: usize,
     setting: FlatSetting,
@@ -51,8 +50,7 @@ pub extern "C" fn straightener_straighten(
 }
 
 // Asks what straightening a picture will do, and writes nothing.
-#[unsafe(no_mangle)]
-pub extern "C" fn straightener_ask(
+pub fn straightener_ask(
     width: usize,
     height: usize,
     setting: FlatSetting,
@@ -69,8 +67,7 @@ pub extern "C" fn straightener_ask(
 }
 
 // Straightens a picture on a ticket.
-#[unsafe(no_mangle)]
-pub extern "C" fn straightener_commit(
+pub fn straightener_commit(
     ticket: FlatTicket,
     width: usize,
     height: usize,
@@ -84,8 +81,7 @@ pub extern "C" fn straightener_commit(
 }
 
 // Tells what a straightening takes and can leave, before there is a picture.
-#[unsafe(no_mangle)]
-pub extern "C" fn straightener_forecast(
+pub fn straightener_forecast(
     width: usize,
     height: usize,
     setting: FlatSetting,
@@ -97,8 +93,7 @@ pub extern "C" fn straightener_forecast(
 }
 
 // Straightens a block of pictures in one plane.
-#[unsafe(no_mangle)]
-pub extern "C" fn straightener_straighten_block(
+pub fn straightener_straighten_block(
     width: usize,
     height: usize,
     depth: usize,
@@ -123,21 +118,19 @@ pub extern "C" fn straightener_straighten_block(
 }
 
 // The work places that a block takes in a plane, 0 for sides or a plane that are refused.
-#[unsafe(no_mangle)]
-pub extern "C" fn straightener_block_work_places(
+pub fn straightener_block_work_places(
     width: usize,
     height: usize,
     depth: usize,
     plane: u32,
 ) -> usize
-    ensures { result ≡ blockWorkPlaces width height depth plane }
+    ensures { result ≡ block_work_places width height depth plane }
 {
     blocks::work_places(width, height, depth, plane)
 }
 
 // Moves one line.
-#[unsafe(no_mangle)]
-pub extern "C" fn straightener_move_line(
+pub fn straightener_move_line(
     n: usize,
     kernel: u32,
     d: i32,
@@ -161,24 +154,21 @@ pub extern "C" fn straightener_move_line(
 }
 
 // The work places that a picture takes.
-#[unsafe(no_mangle)]
-pub extern "C" fn straightener_work_places(width: usize, height: usize) -> usize
+pub fn straightener_work_places(width: usize, height: usize) -> usize
     ensures { result ≡ work_places width height }
 {
     acceptance::work_places(width, height)
 }
 
 // The work places that a line takes.
-#[unsafe(no_mangle)]
-pub extern "C" fn straightener_line_work_places(n: usize) -> usize
+pub fn straightener_line_work_places(n: usize) -> usize
     ensures { result ≡ line.work_places n }
 {
     lines::work_places(n)
 }
 
 // What made sample k of a moved line.
-#[unsafe(no_mangle)]
-pub extern "C" fn straightener_explain(
+pub fn straightener_explain(
     n: usize,
     kernel: u32,
     d: i32,
@@ -192,8 +182,7 @@ pub extern "C" fn straightener_explain(
 }
 
 // The setting with another kernel.
-#[unsafe(no_mangle)]
-pub extern "C" fn straightener_with_kernel(setting: FlatSetting, kernel: u32) -> FlatSetting
+pub fn straightener_with_kernel(setting: FlatSetting, kernel: u32) -> FlatSetting
     ensures { result ≡ laid_as setting (with_kernel (setting_of setting) kernel) }
 {
     let before = flat::setting_of(setting);
@@ -201,12 +190,7 @@ pub extern "C" fn straightener_with_kernel(setting: FlatSetting, kernel: u32) ->
 }
 
 // The setting with the centre at column cx and row cy.
-#[unsafe(no_mangle)]
-pub extern "C" fn straightener_with_centre(
-    setting: FlatSetting,
-    cx: usize,
-    cy: usize,
-) -> FlatSetting
+pub fn straightener_with_centre(setting: FlatSetting, cx: usize, cy: usize) -> FlatSetting
     ensures { result ≡ laid_as setting (with_centre (setting_of setting) cx cy) }
 {
     let before = flat::setting_of(setting);
@@ -214,8 +198,7 @@ pub extern "C" fn straightener_with_centre(
 }
 
 // The setting with the shears a and b, in 4,096ths.
-#[unsafe(no_mangle)]
-pub extern "C" fn straightener_with_shears(setting: FlatSetting, a: i32, b: i32) -> FlatSetting
+pub fn straightener_with_shears(setting: FlatSetting, a: i32, b: i32) -> FlatSetting
     ensures { result ≡ laid_as setting (with_shears (setting_of setting) a b) }
 {
     let before = flat::setting_of(setting);
@@ -223,12 +206,7 @@ pub extern "C" fn straightener_with_shears(setting: FlatSetting, a: i32, b: i32)
 }
 
 // The setting with another border.
-#[unsafe(no_mangle)]
-pub extern "C" fn straightener_with_border(
-    setting: FlatSetting,
-    border: u32,
-    background: i32,
-) -> FlatSetting
+pub fn straightener_with_border(setting: FlatSetting, border: u32, background: i32) -> FlatSetting
     ensures result_value { setting_of result ≡ with_border (setting_of setting) (border_of border background) }
     ensures border_value { (result.border ≡ border) × (result.background ≡ background) }
 {
@@ -244,32 +222,28 @@ pub extern "C" fn straightener_with_border(
 }
 
 // The setting with the shears of step t.
-#[unsafe(no_mangle)]
-pub extern "C" fn straightener_with_step(setting: FlatSetting, t: i32) -> FlatChange
+pub fn straightener_with_step(setting: FlatSetting, t: i32) -> FlatChange
     ensures { result ≡ of_change setting (change_of (setting_of setting) t) }
 {
     flat::of_change(setting, steps::with_step(flat::setting_of(setting), t))
 }
 
 // S(t).
-#[unsafe(no_mangle)]
-pub extern "C" fn straightener_sine(t: i32) -> Step
+pub fn straightener_sine(t: i32) -> Step
     ensures { Exported of_sine (SineAnswer t) result }
 {
     flat::of_sine(steps::sine(t))
 }
 
 // The step that levels the line through two points.
-#[unsafe(no_mangle)]
-pub extern "C" fn straightener_level(x1: i32, y1: i32, x2: i32, y2: i32) -> Step
+pub fn straightener_level(x1: i32, y1: i32, x2: i32, y2: i32) -> Step
     ensures { Exported of_levelled (LevelAnswer largest_side largest_side x1 y1 x2 y2) result }
 {
     flat::of_levelled(levelling::level(x1, y1, x2, y2))
 }
 
 // The same, where no sample on that line is below a threshold.
-#[unsafe(no_mangle)]
-pub extern "C" fn straightener_level_checked(
+pub fn straightener_level_checked(
     width: usize,
     height: usize,
     x1: i32,
@@ -285,8 +259,7 @@ pub extern "C" fn straightener_level_checked(
 }
 
 // Turns and mirrors a picture by one of the eight moves.
-#[unsafe(no_mangle)]
-pub extern "C" fn straightener_quarter_move(
+pub fn straightener_quarter_move(
     width: usize,
     height: usize,
     quarter: u32,
@@ -299,24 +272,21 @@ pub extern "C" fn straightener_quarter_move(
 }
 
 // The one move that two moves in a row are.
-#[unsafe(no_mangle)]
-pub extern "C" fn straightener_joined_moves(first: u32, second: u32) -> Quarter
+pub fn straightener_joined_moves(first: u32, second: u32) -> Quarter
     ensures { result ≡ of_named (joined_answer first second) }
 {
     flat::of_named(quarters::joined(first, second))
 }
 
 // The move that undoes one.
-#[unsafe(no_mangle)]
-pub extern "C" fn straightener_inverse_move(quarter: u32) -> Quarter
+pub fn straightener_inverse_move(quarter: u32) -> Quarter
     ensures { result ≡ of_named (inverse_answer quarter) }
 {
     flat::of_named(quarters::inverse(quarter))
 }
 
 // Greys out.
-#[unsafe(no_mangle)]
-pub extern "C" fn straightener_greys_out(
+pub fn straightener_greys_out(
     width: usize,
     height: usize,
     picture: &[i32],
@@ -328,8 +298,7 @@ pub extern "C" fn straightener_greys_out(
 }
 
 // Floats out.
-#[unsafe(no_mangle)]
-pub extern "C" fn straightener_floats_out(
+pub fn straightener_floats_out(
     width: usize,
     height: usize,
     picture: &[i32],
@@ -341,8 +310,7 @@ pub extern "C" fn straightener_floats_out(
 }
 
 // The reading at a point.
-#[unsafe(no_mangle)]
-pub extern "C" fn straightener_reading(
+pub fn straightener_reading(
     width: usize,
     height: usize,
     column: usize,
@@ -355,20 +323,14 @@ pub extern "C" fn straightener_reading(
 }
 
 // The darkest and the lightest grey.
-#[unsafe(no_mangle)]
-pub extern "C" fn straightener_summary(
-    width: usize,
-    height: usize,
-    picture: &[i32],
-) -> SummaryAnswer
+pub fn straightener_summary(width: usize, height: usize, picture: &[i32]) -> SummaryAnswer
     ensures { Exported of_summary (SummaryOf width height picture.now) result }
 {
     flat::of_summary(readings::summary_of(width, height, picture))
 }
 
 // The answer to one line of the line program, which comes without its line feed.
-#[unsafe(no_mangle)]
-pub extern "C" fn straightener_answer_line(line: &[u8], answer: &mut [u8]) -> LineAnswer
+pub fn straightener_answer_line(line: &[u8], answer: &mut [u8]) -> LineAnswer
     ensures { Exported of_written (LineAnswered line.now answer.old answer.new) result }
 {
     flat::of_written(hexlines::answer(line, answer))

@@ -10,7 +10,7 @@ use Rattle.steps.specs.Step.{entry, S, sine_of}
 use Rattle.levelling.specs.Level.{outside, any_outside, steep, direction_of, level_of}
 use Rattle.readings.specs.Sample.{float_of, reading_of}
 use Rattle.readings.specs.Answers.{judged_by, judged, judged_point, reading_answer, summary_answer}
-use Rattle.readings.specs.Answers.{outside as pointOutside}
+use Rattle.readings.specs.Answers.{outside as point_outside}
 use Rattle.flat.specs.Exported.{of_verdict, of_sine, of_levelled, of_reading, of_summary}
 
 -- S(1000) is 1,887; step 1,698 is refused with 4
@@ -36,15 +36,15 @@ three : List ℤ
 three = negsuc 63 ∷ pos 2176 ∷ pos 32768 ∷ []
 
 reads_under : of_reading (reading_answer 3 1 0 0 three) ≡ record { number = 0; row = 0; column = 0; kind = 1; greys = of_bits binary32 0x4184_0000 }
-unfolding three reading_answer reading_of float_of round of_bits judged_point pointOutside judged judged_by bad_size bad_side short first_bad first_from beyond_of
+unfolding three reading_answer reading_of float_of round of_bits judged_point point_outside judged judged_by bad_size bad_side short first_bad first_from beyond_of
 reads_under = refl
 
 reads_level : of_reading (reading_answer 3 1 1 0 three) ≡ record { number = 0; row = 0; column = 0; kind = 0; greys = of_bits binary32 0x4188_0000 }
-unfolding three reading_answer reading_of float_of round of_bits judged_point pointOutside judged judged_by bad_size bad_side short first_bad first_from beyond_of
+unfolding three reading_answer reading_of float_of round of_bits judged_point point_outside judged judged_by bad_size bad_side short first_bad first_from beyond_of
 reads_level = refl
 
 reads_over : of_reading (reading_answer 3 1 2 0 three) ≡ record { number = 0; row = 0; column = 0; kind = 2; greys = of_bits binary32 0x41A8_0000 }
-unfolding three reading_answer reading_of float_of round of_bits judged_point pointOutside judged judged_by bad_size bad_side short first_bad first_from beyond_of
+unfolding three reading_answer reading_of float_of round of_bits judged_point point_outside judged judged_by bad_size bad_side short first_bad first_from beyond_of
 reads_over = refl
 
 -- its darkest grey is -1/2, its lightest 256
@@ -63,7 +63,7 @@ unfolding bad judged judged_by bad_size bad_side short first_bad first_from beyo
 refused_verdict = refl
 
 refused_reading : of_reading (reading_answer 2 2 1 1 bad) ≡ record { number = 6; row = 1; column = 0; kind = 0; greys = of_bits binary32 0 }
-unfolding bad reading_answer float_of round of_bits judged_point pointOutside judged judged_by bad_size bad_side short first_bad first_from beyond_of
+unfolding bad reading_answer float_of round of_bits judged_point point_outside judged judged_by bad_size bad_side short first_bad first_from beyond_of
 refused_reading = refl
 
 refused_summary :

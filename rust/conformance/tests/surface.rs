@@ -48,7 +48,7 @@ fn sorted(mut names: Vec<String>) -> Vec<String> {
 fn functions() {
     let header = sorted(declared().into_iter().map(|(name, _)| name).collect());
     assert_eq!(sorted(names("rust/straightener-sys/src/lib.rs", "pub fn ")), header);
-    assert_eq!(sorted(names("crates/exports/src/lib.rt", "pub extern \"C\" fn ")), header);
+    assert_eq!(sorted(names("crates/exports_c/src/lib.rt", "pub extern \"C\" fn ")), header);
     assert_eq!(sorted(calls().into_iter().flat_map(|call| call.c).collect()), header, "docs/REFUSALS.md");
     let header_text = read("include/straightener.h");
     let index = header_text.split("*/").next().expect("a comment").to_string();
@@ -122,7 +122,7 @@ fn orders_in_the_documentation_for_rust() {
 #[test]
 fn prototypes() {
     let declared = sorted(declarations::prototypes_of_the_header());
-    let proved = declarations::prototypes("crates/exports/src/lib.rt", "pub extern \"C\" fn ")
+    let proved = declarations::prototypes("crates/exports_c/src/lib.rt", "pub extern \"C\" fn ")
         .into_iter()
         .map(|prototype| prototype.replace("*res,", "*result,").replace(" res_len", " result_len"))
         .collect();

@@ -24,7 +24,7 @@ module _ (c : Start) where
       plus_sized (times_sized (times_sized (num_sized 8192 tt) t_sized tt) (arg_sized 1023 c.ranges.dx small.0) tt)
       (times_sized (minus_sized (num_sized 16777216 tt) (times_sized t_sized t_sized tt) tt) (arg_sized 1023 c.ranges.dy small.1) tt) tt
 
--- need k of the mirror, which asks of u - 1,697 three times
+-- goal k of the mirror, which asks of u - 1,697 three times
 answer : (k : ℕ) (c : Start) → At k (asked (code c.args.u c.args.dx c.args.dy) done)
 answer k c = fit k (sized c)
 
