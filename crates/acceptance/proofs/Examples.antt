@@ -6,8 +6,9 @@ use mathlib.Core.List.{List, [], ◌∷◌, map}
 use lib.Dec.{lit≤}
 use lib.IntN.{ℤ, pos, negsuc}
 use lib.ListN.{replicate}
-use Rattle.refusals.specs.declared.Verdict.{Verdict}
-use Rattle.refusals.specs.declared.Verdict.TheVariants.{Accepted, Refused}
+use Rattle.std.specs.Prelude.{Err}
+use Rattle.refusals.specs.declared.Refusal.TheVariants.{BadSize, TooShort, BadCentre, TooFar, BadKernel, BadSample, BadBackground, OtherSize}
+use Rattle.refusals.specs.Judging.{Verdict, accepted}
 use Rattle.refusals.specs.Tests.{bad_side, bad_size, short, bad_kernel, beyond_of, first_from, first_bad}
 use Rattle.refusals.proofs.First.{one_number_good}
 use Rattle.settings.specs.declared.Border.{Border}
@@ -52,24 +53,24 @@ held picture = judged 3 2 still picture 6 36
 
 sides :
     sized 1 1 ∷ sized 0 1 ∷ sized 1 0 ∷ sized 1025 1 ∷ sized 1 1025 ∷ []
-    ≡ Accepted ∷ Refused 1 0 0 ∷ Refused 1 0 0 ∷ Refused 1 0 0 ∷ Refused 1 0 0 ∷ []
+    ≡ accepted ∷ Err BadSize ∷ Err BadSize ∷ Err BadSize ∷ Err BadSize ∷ []
 unfolding judged_on bad_size bad_side too_short short bad_centre bad_shears bad_kernel bad_background first_bad first_from beyond_of
 sides = refl
 
 -- computed up to number 6, which zeros do not meet
-longest_sides : sized 1024 1 ∷ sized 1 1024 ∷ [] ≡ Accepted ∷ Accepted ∷ []
+longest_sides : sized 1024 1 ∷ sized 1 1024 ∷ [] ≡ accepted ∷ accepted ∷ []
 unfolding judged_on bad_size bad_side too_short short bad_centre bad_shears bad_kernel bad_background beyond_of
 longest_sides = rw (one_number_good range 1024 1 1024 (pos 0) (lit≤ tt) (lit≤ tt), one_number_good range 1 1024 1024 (pos 0) (lit≤ tt) (lit≤ tt)) refl
 
 buffers :
     lent 6 6 36 ∷ lent 5 6 36 ∷ lent 6 5 36 ∷ lent 6 6 35 ∷ []
-    ≡ Accepted ∷ Refused 2 0 0 ∷ Refused 2 0 0 ∷ Refused 2 0 0 ∷ []
+    ≡ accepted ∷ Err TooShort ∷ Err TooShort ∷ Err TooShort ∷ []
 unfolding judged_on bad_size bad_side too_short short bad_centre bad_shears bad_kernel bad_background first_bad first_from beyond_of
 buffers = refl
 
 centres :
     turned (set 0 2 1 (pos 0) (pos 0)) ∷ turned (set 0 3 1 (pos 0) (pos 0)) ∷ turned (set 0 2 2 (pos 0) (pos 0)) ∷ []
-    ≡ Accepted ∷ Refused 3 0 0 ∷ Refused 3 0 0 ∷ []
+    ≡ accepted ∷ Err BadCentre ∷ Err BadCentre ∷ []
 unfolding judged_on bad_size bad_side too_short short bad_centre bad_shears bad_kernel bad_background first_bad first_from beyond_of
 centres = refl
 
@@ -81,12 +82,12 @@ shears :
     ∷ turned (set 0 0 0 (pos 0) (pos 4097))
     ∷ turned (set 0 0 0 (pos 0) (negsuc 4096))
     ∷ []
-    ≡ Accepted ∷ Accepted ∷ Refused 4 0 0 ∷ Refused 4 0 0 ∷ Refused 4 0 0 ∷ Refused 4 0 0 ∷ []
+    ≡ accepted ∷ accepted ∷ Err TooFar ∷ Err TooFar ∷ Err TooFar ∷ Err TooFar ∷ []
 unfolding judged_on bad_size bad_side too_short short bad_centre bad_shears bad_kernel bad_background first_bad first_from beyond_of
 shears = refl
 
 kernels :
-    map (λ k. turned (set k 0 0 (pos 0) (pos 0))) (0 ∷ 1 ∷ 2 ∷ 3 ∷ []) ≡ Accepted ∷ Accepted ∷ Accepted ∷ Refused 5 0 0 ∷ []
+    map (λ k. turned (set k 0 0 (pos 0) (pos 0))) (0 ∷ 1 ∷ 2 ∷ 3 ∷ []) ≡ accepted ∷ accepted ∷ accepted ∷ Err BadKernel ∷ []
 unfolding judged_on bad_size bad_side too_short short bad_centre bad_shears bad_kernel bad_background first_bad first_from beyond_of
 kernels = refl
 
@@ -96,13 +97,13 @@ samples :
     ∷ held (pos 32767 ∷ pos 0 ∷ pos 0 ∷ pos 0 ∷ pos 0 ∷ pos 32768 ∷ negsuc 32767 ∷ [])
     ∷ held (pos 0 ∷ negsuc 32767 ∷ pos 0 ∷ pos 32768 ∷ pos 0 ∷ pos 0 ∷ [])
     ∷ []
-    ≡ Accepted ∷ Refused 6 1 2 ∷ Refused 6 0 1 ∷ []
+    ≡ accepted ∷ Err (BadSample (record { row = 1; column = 2 })) ∷ Err (BadSample (record { row = 0; column = 1 })) ∷ []
 unfolding judged_on bad_size bad_side too_short short bad_centre bad_shears bad_kernel bad_background first_bad first_from beyond_of
 samples = refl
 
 backgrounds :
     map (λ (e : Border). turned (with_border still e)) (Background (pos 32767) ∷ Background (negsuc 32766) ∷ Background (pos 32768) ∷ Background (negsuc 32767) ∷ [])
-    ≡ Accepted ∷ Accepted ∷ Refused 12 0 0 ∷ Refused 12 0 0 ∷ []
+    ≡ accepted ∷ accepted ∷ Err BadBackground ∷ Err BadBackground ∷ []
 unfolding judged_on bad_size bad_side too_short short bad_centre bad_shears bad_kernel bad_background first_bad first_from beyond_of
 backgrounds = refl
 
@@ -115,7 +116,7 @@ lowest :
     ∷ judged 1 1 (with_border (set 3 0 0 (pos 0) (pos 0)) (Background (pos 32768))) (pos 32768 ∷ []) 1 12
     ∷ judged 1 1 (with_border still (Background (pos 32768))) (pos 32768 ∷ []) 1 12
     ∷ []
-    ≡ Refused 1 0 0 ∷ Refused 2 0 0 ∷ Refused 3 0 0 ∷ Refused 4 0 0 ∷ Refused 5 0 0 ∷ Refused 12 0 0 ∷ []
+    ≡ Err BadSize ∷ Err TooShort ∷ Err BadCentre ∷ Err TooFar ∷ Err BadKernel ∷ Err BadBackground ∷ []
 unfolding judged_on bad_size bad_side too_short short bad_centre bad_shears bad_kernel bad_background first_bad first_from beyond_of
 lowest = refl
 
@@ -126,6 +127,6 @@ on_another_ticket :
     ∷ judged_on true 3 2 still (replicate 6 (pos 0)) 6 35
     ∷ judged_on true 3 2 (set 0 3 0 (pos 0) (pos 0)) (replicate 6 (pos 0)) 6 36
     ∷ []
-    ≡ Refused 14 0 0 ∷ Refused 1 0 0 ∷ Refused 2 0 0 ∷ Refused 14 0 0 ∷ []
+    ≡ Err OtherSize ∷ Err BadSize ∷ Err TooShort ∷ Err OtherSize ∷ []
 unfolding judged_on bad_size bad_side too_short short bad_centre bad_shears bad_kernel bad_background first_bad first_from beyond_of
 on_another_ticket = refl

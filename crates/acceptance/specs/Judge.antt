@@ -1,9 +1,8 @@
 -- Which calls are straightened: the work places that one takes, and the tests of numbers 1, 2, 14, 3, 4, 5, 12 and 6, in their order. Assumes nothing.
 use Rattle.std.specs.Prelude.{ℕ, ◌*◌, ◌≤◌, ◌<◌, max, Bool, false, ◌||◌, cond, List, leb, ℤ, nat_abs, length}
-use Rattle.refusals.specs.declared.Verdict.{Verdict}
-use Rattle.refusals.specs.declared.Verdict.TheVariants.{Accepted}
+use Rattle.refusals.specs.declared.Refusal.TheVariants.{BadSize, TooShort, BadCentre, TooFar, BadKernel, BadSample, BadBackground, OtherSize}
 use Rattle.refusals.specs.Tests.{bad_size, short, bad_kernel, beyond_of, AllWithin, first_bad}
-use Rattle.refusals.specs.Judging.{refused_if, of_found, and_then}
+use Rattle.refusals.specs.Judging.{Verdict, accepted, refused_if, of_found, and_then}
 use Rattle.settings.specs.declared.Setting.{Setting}
 use Rattle.moves.specs.Border.{bad_background, grey}
 
@@ -27,13 +26,13 @@ bad_centre W H s = leb W s.cx || leb H s.cy
 unfoldable pub bad_shears : Setting → Bool
 bad_shears s = beyond_of 4096 s.a || beyond_of 4096 s.b
 
--- the number that a setting is refused under, on a picture of that size: 12 is judged after 5
+-- what a setting is refused under, on a picture of that size: 12 is judged after 5
 abbrev pub judged_setting : ℕ → ℕ → Setting → Verdict
 judged_setting W H s =
-    refused_if (bad_centre W H s) 3
-    (refused_if (bad_shears s) 4
-    (refused_if (bad_kernel s.kernel) 5
-    (refused_if (bad_background s.border) 12 Accepted)))
+    refused_if (bad_centre W H s) BadCentre
+    (refused_if (bad_shears s) TooFar
+    (refused_if (bad_kernel s.kernel) BadKernel
+    (refused_if (bad_background s.border) BadBackground accepted)))
 
 -- none applies, in plain bounds
 pub record FitSetting (W H : ℕ) (s : Setting) : Type 0 where
@@ -42,14 +41,14 @@ pub record FitSetting (W H : ℕ) (s : Setting) : Type 0 where
   pub kernel : s.kernel ≤ 2
   pub background : nat_abs (grey s.border) ≤ 32767
 
--- the number that a call with a result and work of so many places is refused under, 14 judged after 2 and before the setting; 6 with the first sample
+-- what a call with a result and work of so many places is refused under, 14 judged after 2 and before the setting; 6 with the first sample
 -- beyond its range, in row order. `other` says that the call is made on a ticket of another size (Q-7)
 unfoldable pub judged_on : Bool → ℕ → ℕ → Setting → List ℤ → ℕ → ℕ → Verdict
 judged_on other W H s picture result work =
-    refused_if (bad_size W H) 1
-    (refused_if (too_short W H (length picture) result work) 2
-    (refused_if other 14
-    (and_then (judged_setting W H s) (of_found 6 (first_bad range W H picture)))))
+    refused_if (bad_size W H) BadSize
+    (refused_if (too_short W H (length picture) result work) TooShort
+    (refused_if other OtherSize
+    (and_then (judged_setting W H s) (of_found BadSample (first_bad range W H picture)))))
 
 -- the same of a call on no ticket, which 14 does not refuse
 abbrev pub judged : ℕ → ℕ → Setting → List ℤ → ℕ → ℕ → Verdict

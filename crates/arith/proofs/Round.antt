@@ -9,6 +9,7 @@ use native.Mathlib.Nat.{div-add-mod, mod-lt, mul-le-mul_left, mul-lt-mul_of_pos_
 use native.Mathlib.Omega.{arith}
 use lib.IntN.{ℤ, pos, negsuc, neg_ℤ, nat_abs, ◌+ℤ◌, ◌-ℤ◌, ◌*ℤ◌, +ℤ_idr}
 use lib.Signed.{◌≤ℤ◌, ◌<ℤ◌, shr_z, quot_z, rem_z, ≤ℤ_refl}
+use Rattle.std.specs.Int.{int_div_euclid, int_rem_euclid}
 use Rattle.arith.specs.Whole.{floor, remainder, round}
 use Rattle.arith.proofs.Bridge.{bridge, all1, all2, all3, all4}
 use Rattle.arith.proofs.Laws.{≤ℤ_antisym, ≤ℤ_of_<ℤ, pos_non_neg, positive, *ℤ_cancel_<ℤ}
@@ -143,6 +144,22 @@ remainder_exact k m h = (division_only (pos m *ℤ k) k m 0 h (sym (+ℤ_idr (po
 -- of a natural number it is ℕ's
 pub remainder_natural : (a m : ℕ) → 0 < m → remainder (pos a) m ≡ a % m
 remainder_natural a m h = (division_only (pos a) (pos (a / m)) m (a % m) (mod-lt a h) (simp bridge (omega (arith, div-add-mod a m)))).1
+
+-- the library's quotient and remainder, of a division whose remainder is not negative
+pub euclid-floor : (z m : ℤ) → pos 0 <ℤ m → int_div_euclid z m ≡ floor z (nat_abs m)
+unfolding floor
+euclid-floor (pos a) (pos m) h = refl
+euclid-floor (negsuc a) (pos m) h = refl
+euclid-floor (pos a) (negsuc m) h = absurd h.lt
+euclid-floor (negsuc a) (negsuc m) h = absurd h.lt
+
+pub euclid-remainder : (z m : ℤ) → pos 0 <ℤ m → int_rem_euclid z m ≡ pos (remainder z (nat_abs m))
+euclid-remainder (pos a) (pos m) h = ap pos (sym (remainder_natural a m (positive m h)))
+euclid-remainder (negsuc a) (pos m) h =
+    let small = mod-lt a (positive m h) in
+    ap pos (sym (division_only (negsuc a) (negsuc (a / m)) m (m - 1 - a % m) (omega (arith, small)) (simp bridge (omega (arith, div-add-mod a m, small)))).1)
+euclid-remainder (pos a) (negsuc m) h = absurd h.lt
+euclid-remainder (negsuc a) (negsuc m) h = absurd h.lt
 
 -- k places on
 pub remainder-add : (z : ℤ) (k m : ℕ) → 0 < m → (remainder z m + k) % m ≡ remainder (z +ℤ pos k) m

@@ -2,27 +2,31 @@
 -- Assumes nothing.
 use Prim.Native.Nat.{ℕ, zero, suc, ◌+◌, ◌*◌, ◌/◌, ◌%◌, ◌≤◌, ◌<◌}
 use mathlib.Core.Path.{◌≡◌, refl, sym, ap, ◌∙◌, subst}
-use mathlib.Core.Bool.{Bool, false, ◌||◌}
+use mathlib.Core.Bool.{Bool, true, false, ◌||◌}
 use mathlib.Core.List.{List}
 use native.Mathlib.Nat.{div-add-mod', div-lt_iff_lt-mul, mod-lt}
 use native.Mathlib.Omega.{arith}
 use borrow.Author.Tests.{ltb-false, le-ltb, ne_eqb}
 use lib.IntN.{ℤ}
 use lib.ListN.{length}
-use Rattle.refusals.specs.declared.Verdict.{Verdict}
-use Rattle.refusals.specs.declared.Verdict.TheVariants.{Accepted, Refused}
+use Rattle.std.specs.Prelude.{Option, Some, None, Err}
+use Rattle.refusals.specs.declared.Place.{Place}
+use Rattle.refusals.specs.declared.Refusal.{Refusal}
+use Rattle.refusals.specs.declared.Refusal.TheVariants as variants
+use Rattle.refusals.specs.Judging as verdict
 use Rattle.refusals.specs.Tests.{side_beyond, short, bad_kernel, first_bad}
-use Rattle.refusals.specs.Judging.{refused_if, of_found}
+use Rattle.refusals.specs.Judging.{Verdict, accepted, refused_if, of_found, number_of, row_of, column_of}
 use Rattle.refusals.proofs.Tests.{or_false, side_within, short_good}
 use Rattle.refusals.proofs.First.{nothing_bad, BadAt, FirstBeyond, first_bad_lem}
-use Rattle.refusals.proofs.Judging.{refused_if-accepted, of_found-accepted, and_then-accepted, AcceptedByZero, by_zero_if, by_zero_then, by_zero_found}
+use Rattle.refusals.proofs.Judging.{refused_if-accepted, of_found-accepted, and_then-accepted, accepted_by_zero}
 use Rattle.settings.specs.declared.Setting.{Setting}
 use Rattle.moves.specs.Border.{bad_background}
 use Rattle.acceptance.specs.Judge.{range, bad_centre, bad_shears, judged_setting}
-use Rattle.acceptance.proofs.Accepted.{then_later, setting_accepted, accepted_setting, setting_unread, setting_by_zero, six_past, six_past_then, six_found}
+use Rattle.acceptance.proofs.Accepted.{then_later, setting_accepted, accepted_setting, setting_unread, NamesFound, six_past, six_past_then, six_found}
 use Rattle.planes.specs.declared.Slices.{Slices}
 use Rattle.blocks.specs.Block.{place, slices_of}
 use Rattle.blocks.specs.Judge.{bad_sides, bad_plane, room_of, work_places, too_short, judged, Fit}
+use Rattle.blocks.specs.Answer.{only_six, refused_at}
 use Rattle.blocks.proofs.Planes.{place_below}
 
 -- ---- what each test that failed tells, and what makes it fail
@@ -115,6 +119,26 @@ module _ (W H D : ℕ) (block : List ℤ) where
       joined : r * W + x ≡ place W H (r / H) (r % H) x
       joined = ap (λ (n : ℕ). n * W + x) (sym (div-add-mod' r H)) ∙ place_below W H D (r / H) (r % H) x
 
+-- ---- what a refusal by depth, row and column says of the one that it is made of
+pub record Sited (H : ℕ) (refusal : Refusal) : Type 0 where
+  pub number : verdict.number (refused_at H refusal).refusal ≡ verdict.number refusal
+  pub depth : (refused_at H refusal).depth ≡ only_six (verdict.number refusal) ((verdict.place refusal).row / H)
+  pub row : (verdict.place (refused_at H refusal).refusal).row ≡ only_six (verdict.number refusal) ((verdict.place refusal).row % H)
+  pub column : (verdict.place (refused_at H refusal).refusal).column ≡ only_six (verdict.number refusal) (verdict.place refusal).column
+
+abbrev Sites : ℕ → Verdict → Type 0
+Sites H v = (refusal : Refusal) → v ≡ Err refusal → Sited H refusal
+
+sited_if : {H : ℕ} (t : Bool) (own : Refusal) (later : Verdict) → Sited H own → Sites H later → Sites H (refused_if t own later)
+sited_if {H} true own later here after refusal e = let same : own ≡ refusal = cc in subst (Sited H) same here
+sited_if false own later here after refusal e = after refusal e
+
+sited_found : (H : ℕ) (f : Option Place) → Sites H (of_found variants.BadSample f)
+sited_found H None refusal e = absurd cc
+sited_found H (Some p) refusal e =
+    let same : variants.BadSample p ≡ refusal = cc in
+    subst (Sited H) same (record { number = refl; depth = refl; row = refl; column = refl })
+
 -- ---- the whole chain
 module _ (W H D plane : ℕ) (set : Setting) (block : List ℤ) (result work : ℕ) where
   abbrev s : Slices
@@ -126,45 +150,45 @@ module _ (W H D plane : ℕ) (set : Setting) (block : List ℤ) (result work : �
 
   -- the verdict on the samples alone
   abbrev samples : Verdict
-  samples = of_found 6 (first_bad range W (D * H) block)
+  samples = of_found variants.BadSample (first_bad range W (D * H) block)
 
   -- the numbers in their order: 1, 17, 2, 3, 4, 5, 12 and 6
   pub in_order : judged W H D plane set block result work
-      ≡ refused_if (bad_sides W H D) 1
-      (refused_if (bad_plane plane) 17
-      (refused_if (too_short (W * H * D) (room_of (slices_of W H D plane)) (length block) result work) 2
-      (refused_if (bad_centre (slices_of W H D plane).columns (slices_of W H D plane).rows set) 3
-      (refused_if (bad_shears set) 4
-      (refused_if (bad_kernel set.kernel) 5
-      (refused_if (bad_background set.border) 12
-      (of_found 6 (first_bad range W (D * H) block))))))))
+      ≡ refused_if (bad_sides W H D) variants.BadSize
+      (refused_if (bad_plane plane) variants.BadPlane
+      (refused_if (too_short (W * H * D) (room_of (slices_of W H D plane)) (length block) result work) variants.TooShort
+      (refused_if (bad_centre (slices_of W H D plane).columns (slices_of W H D plane).rows set) variants.BadCentre
+      (refused_if (bad_shears set) variants.TooFar
+      (refused_if (bad_kernel set.kernel) variants.BadKernel
+      (refused_if (bad_background set.border) variants.BadBackground
+      (of_found variants.BadSample (first_bad range W (D * H) block))))))))
   unfolding judged
   in_order =
-      ap (λ (v : Verdict). refused_if (bad_sides W H D) 1 (refused_if (bad_plane plane) 17 (refused_if two 2 v)))
+      ap (λ (v : Verdict). refused_if (bad_sides W H D) variants.BadSize (refused_if (bad_plane plane) variants.BadPlane (refused_if two variants.TooShort v)))
       (then_later (bad_centre s.columns s.rows set) (bad_shears set) (bad_kernel set.kernel) (bad_background set.border) samples)
 
   -- past every other test the samples alone are judged
-  pub only_samples : bad_sides W H D ≡ false → bad_plane plane ≡ false → two ≡ false → judged_setting s.columns s.rows set ≡ Accepted
+  pub only_samples : bad_sides W H D ≡ false → bad_plane plane ≡ false → two ≡ false → judged_setting s.columns s.rows set ≡ accepted
       → judged W H D plane set block result work ≡ samples
   unfolding judged
   only_samples sides known buffers setting = rw (sides, known, buffers, setting) refl
 
   -- a call that passes every test is accepted
-  pub fit_accepted : Fit W H D plane set block result work → judged W H D plane set block result work ≡ Accepted
+  pub fit_accepted : Fit W H D plane set block result work → judged W H D plane set block result work ≡ accepted
   fit_accepted f =
       only_samples (fit_sides W H D f.width f.height f.depth) (plane_accepted plane f.known)
       (fit_long (W * H * D) (room_of s) (length block) result work f.block_places f.result_places f.work_places_lent) (setting_accepted f.setting)
-      ∙ ap (of_found 6) ((nothing_bad range W (D * H) block).1 (λ i l. f.samples i (subst (λ (n : ℕ). i < n) (all-places W H D) l)))
+      ∙ ap (of_found variants.BadSample) ((nothing_bad range W (D * H) block).1 (λ i l. f.samples i (subst (λ (n : ℕ). i < n) (all-places W H D) l)))
 
   -- and an accepted one passes every test
-  pub accepted_fit : judged W H D plane set block result work ≡ Accepted → Fit W H D plane set block result work
+  pub accepted_fit : judged W H D plane set block result work ≡ accepted → Fit W H D plane set block result work
   unfolding judged
   accepted_fit e =
-      let one = refused_if-accepted (bad_sides W H D) 1 _ e in
-      let seventeen = refused_if-accepted (bad_plane plane) 17 _ one.1 in
-      let buffers = refused_if-accepted two 2 _ seventeen.1 in
-      let setting = and_then-accepted (judged_setting s.columns s.rows set) _ buffers.1 in
-      let six = (nothing_bad range W (D * H) block).0 (of_found-accepted 6 (first_bad range W (D * H) block) setting.1) in
+      let one = refused_if-accepted (bad_sides W H D) variants.BadSize _ tt e in
+      let seventeen = refused_if-accepted (bad_plane plane) variants.BadPlane _ tt one.1 in
+      let buffers = refused_if-accepted two variants.TooShort _ tt seventeen.1 in
+      let setting = and_then-accepted (judged_setting s.columns s.rows set) _ tt buffers.1 in
+      let six = (nothing_bad range W (D * H) block).0 (of_found-accepted variants.BadSample (first_bad range W (D * H) block) setting.1) in
       let sides = sides_good W H D one.0 in
       let long = long_enough (W * H * D) (room_of s) (length block) result work buffers.0 in
       record {
@@ -180,18 +204,29 @@ module _ (W H D plane : ℕ) (set : Setting) (block : List ℤ) (result work : �
       }
 
   -- no number is 0, so that 0 says that the call is accepted
-  pub zero-accepted : AcceptedByZero (judged W H D plane set block result work)
-  unfolding judged
-  zero-accepted =
-      by_zero_if (bad_sides W H D) 1 _ (λ e. omega arith) (by_zero_if (bad_plane plane) 17 _ (λ e. omega arith) (by_zero_if two 2 _ (λ e. omega arith)
-      (by_zero_then (judged_setting s.columns s.rows set) _ (setting_by_zero s.columns s.rows set) (by_zero_found 6 (first_bad range W (D * H) block) (λ e. omega arith)))))
+  pub zero-accepted : number_of (judged W H D plane set block result work) ≡ 0 → judged W H D plane set block result work ≡ accepted
+  zero-accepted = accepted_by_zero _
 
-  -- number 6 names the first sample beyond the range, in the order of storage
-  pub refused_sample : (r x : ℕ) → judged W H D plane set block result work ≡ Refused 6 r x → BadSample W H D block (r / H) (r % H) x
+  -- number 6 names a sample that the scan found
+  six_names_found : NamesFound (first_bad range W (D * H) block) (judged W H D plane set block result work)
   unfolding judged
-  refused_sample r x e =
-      let one = six_past (bad_sides W H D) 1 _ r x (λ q. omega arith) e in
-      let seventeen = six_past (bad_plane plane) 17 _ r x (λ q. omega arith) one in
-      let buffers = six_past two 2 _ r x (λ q. omega arith) seventeen in
-      let setting = six_past_then (judged_setting s.columns s.rows set) _ r x (setting_unread s.columns s.rows set) buffers in
-      bad_below W H D block r x ((first_bad_lem range W (D * H) block r x).0 (six_found (first_bad range W (D * H) block) r x setting))
+  six_names_found =
+      six_past (bad_sides W H D) variants.BadSize _ _ (λ e. omega arith) (six_past (bad_plane plane) variants.BadPlane _ _ (λ e. omega arith)
+      (six_past two variants.TooShort _ _ (λ e. omega arith)
+      (six_past_then (judged_setting s.columns s.rows set) _ _ (setting_unread s.columns s.rows set) (six_found (first_bad range W (D * H) block)))))
+
+  -- which is the first beyond the range, in the order of storage
+  pub refused_sample : let v = judged W H D plane set block result work in number_of v ≡ 6 → BadSample W H D block (row_of v / H) (row_of v % H) (column_of v)
+  refused_sample e = bad_below W H D block _ _ ((first_bad_lem range W (D * H) block _ _).0 (six_names_found e))
+
+  -- ---- a refusal by depth, row and column
+  pub sites : (refusal : Refusal) → judged W H D plane set block result work ≡ Err refusal → Sited H refusal
+  sites refusal e =
+      sited_if (bad_sides W H D) variants.BadSize _ (record { number = refl; depth = refl; row = refl; column = refl })
+      (sited_if (bad_plane plane) variants.BadPlane _ (record { number = refl; depth = refl; row = refl; column = refl })
+      (sited_if two variants.TooShort _ (record { number = refl; depth = refl; row = refl; column = refl })
+      (sited_if (bad_centre s.columns s.rows set) variants.BadCentre _ (record { number = refl; depth = refl; row = refl; column = refl })
+      (sited_if (bad_shears set) variants.TooFar _ (record { number = refl; depth = refl; row = refl; column = refl })
+      (sited_if (bad_kernel set.kernel) variants.BadKernel _ (record { number = refl; depth = refl; row = refl; column = refl })
+      (sited_if (bad_background set.border) variants.BadBackground _ (record { number = refl; depth = refl; row = refl; column = refl })
+      (sited_found H (first_bad range W (D * H) block)))))))) refusal (sym in_order ∙ e)

@@ -2,7 +2,7 @@
 use Prim.Native.Nat.{ℕ, ◌+◌, ◌*◌, ◌/◌, ◌%◌, ◌≤◌, ◌<◌}
 use mathlib.Core.Path.{◌≡◌, refl, sym, ap, ap₂, ◌∙◌, subst}
 use mathlib.Core.List.{List, ◌++◌, append-nil}
-use native.Mathlib.Nat.{mul-pos, mul-le-mul}
+use native.Mathlib.Nat.{mul-pos}
 use native.Mathlib.Omega.{arith}
 use borrow.Author.Tests.{ne_eqb}
 use lib.Arith.{digits_div, digits_mod}
@@ -14,10 +14,11 @@ use Rattle.lists.specs.declared.Extremes.{Extremes}
 use Rattle.lists.specs.Line.{Line, line}
 use Rattle.lists.specs.Ends.{smallest, largest, extremes_of}
 use Rattle.lists.proofs.Ends.{picked_same, Cover, smallest_groups, largest_groups, smallest-rows, largest-rows}
-use Rattle.refusals.specs.declared.Verdict.{Verdict}
-use Rattle.refusals.specs.declared.Verdict.TheVariants.{Accepted, Refused}
+use Rattle.std.specs.Prelude.{Ok, Err}
+use Rattle.refusals.specs.declared.Refusal.{Refusal}
 use Rattle.refusals.specs.Tests.{AllWithin}
 use Rattle.refusals.specs.Judging as verdict
+use Rattle.refusals.specs.Judging.{Verdict, accepted}
 use Rattle.settings.specs.declared.Setting.{Setting}
 use Rattle.lists.specs.Picture.{picture}
 use Rattle.passes.specs.Picture.{straighten}
@@ -31,14 +32,12 @@ use Rattle.planes.proofs.Places.{slice-length, slice-picture}
 use Rattle.pictures.specs.Answer as single
 use Rattle.pictures.specs.Answer.{kernel_in, row_moves, column_moves}
 use Rattle.pictures.proofs.Call as single-call
-use Rattle.blocks.specs.declared.Outcome.{Outcome}
-use Rattle.blocks.specs.declared.Outcome.TheVariants as variants
 use Rattle.blocks.specs.Block.{slices_of, slice_at, row_at, column_at, straight_slice, straighten_block}
 use Rattle.blocks.specs.Judge.{room_of, Fit}
-use Rattle.blocks.specs.Answer.{number_of, depth_of, row_of, column_of, refused_at, count_over, slice_rows, smallest_over, largest_over, slice_outcome, verdict_of, Answered, Answer}
+use Rattle.blocks.specs.Answer.{Outcome, number_of, depth_of, row_of, column_of, refused_at, count_over, slice_rows, smallest_over, largest_over, slice_outcome, verdict_of, Answered, Answer}
 use Rattle.blocks.proofs.Planes.{stands, slices_whole}
 use Rattle.blocks.proofs.Straight.{third_slice, straight_slice_lem, block_slice}
-use Rattle.blocks.proofs.Accepted.{Side, sides_of, accepted_fit, zero-accepted, BadSample, refused_sample}
+use Rattle.blocks.proofs.Accepted.{Side, sides_of, accepted_fit, zero-accepted, BadSample, refused_sample, Sited}
 
 -- ---- a block that no number refuses
 module _ {W H D plane : ℕ} {set : Setting} {block : List ℤ} {places room : ℕ} (f : Fit W H D plane set block places room) where
@@ -54,18 +53,11 @@ module _ {W H D plane : ℕ} {set : Setting} {block : List ℤ} {places room : �
   pub sides : Side s.columns × Side s.rows × Side s.slices
   sides = sides_of W H D plane f.width f.height f.depth
 
-  -- the same as computed, with what its setting has passed
-  pub sides_as : (t : Slices) → t ≡ s → ((t.columns ≤ 128) × (t.rows ≤ 128) × (t.slices ≤ 128)) × singly.FitSetting t.columns t.rows set
-  sides_as t e = rw e ((sides.0.1, sides.1.1, sides.2.1), f.setting)
-
   pub whole : Whole s size
   whole = slices_whole W H D f.width.0 f.height.0 plane
 
   pub some_places : 1 ≤ size
   some_places = mul-pos (mul-pos f.width.0 f.height.0) f.depth.0
-
-  pub few_places : size ≤ 2097152
-  few_places = omega (arith, mul-le-mul (mul-le-mul f.width.1 f.height.1) f.depth.1)
 
   -- its copy, in so many places, may be straightened slice by slice
   pub fit_workable : (long work : ℕ) → long ≡ size → room_of s ≤ work → Workable s set long work
@@ -111,7 +103,7 @@ module _ {W H D plane : ℕ} {set : Setting} {block : List ℤ} {places room : �
   own_fit result work big i hi = slice_fit i hi (length (slice_of s result i)) work (omega (arith, slice-length s result i)) big
 
   own_accepted : (result : List ℤ) (work : ℕ) → room_of s ≤ work → (i : ℕ) → i < s.slices
-      → singly.judged s.columns s.rows set (slice_of s block i) (length (slice_of s result i)) work ≡ Accepted
+      → singly.judged s.columns s.rows set (slice_of s block i) (length (slice_of s result i)) work ≡ accepted
   own_accepted result work big i hi =
       alone.fit_accepted s.columns s.rows set (slice_of s block i) (length (slice_of s result i)) work (own_fit result work big i hi)
 
@@ -203,30 +195,30 @@ module _ {W H D plane : ℕ} {set : Setting} {block : List ℤ} {places room : �
 
 -- ---- the answer
 module _ (v : Verdict) (W H D plane : ℕ) (set : Setting) (block result work : List ℤ) where
-  pub refused-answer : (number row column : ℕ) → v ≡ Refused number row column
-      → Answered v W H D plane (slices_of W H D plane) set block result work (refused_at H number row column) result work
-  refused-answer number row column e =
+  pub refused-answer : (refusal : Refusal) → v ≡ Err refusal → Sited H refusal
+      → Answered v W H D plane (slices_of W H D plane) set block result work (Err (refused_at H refusal)) result work
+  refused-answer refusal e sited =
       record {
         outcome = rw e refl;
-        number = rw e refl;
-        depth = rw e refl;
-        row = rw e refl;
-        column = rw e refl;
+        number = rw e sited.number;
+        depth = rw e sited.depth;
+        row = rw e sited.row;
+        column = rw e sited.column;
         count = rw e refl;
         smallest = rw e refl;
         largest = rw e refl;
         written = rw e refl;
-        readable = λ a. let z : ◌≡◌ {A = ℕ} 0 1 = cc in absurd (omega arith);
+        readable = λ a. absurd cc;
         cleared = rw e refl;
-        single = λ a. let z : ◌≡◌ {A = ℕ} 0 1 = cc in absurd (omega arith);
+        single = λ a. absurd cc;
       }
 
-  pub accepted-answer : (lines : ℕ) (extremes : Extremes) (result' work' : List ℤ) → v ≡ Accepted → Fit W H D plane set block (length result) (length work)
+  pub accepted-answer : (lines : ℕ) (extremes : Extremes) (result' work' : List ℤ) → v ≡ accepted → Fit W H D plane set block (length result) (length work)
       → lines ≡ count_over (slices_of W H D plane) set
       → extremes ≡ extremes_of (W * H * D) result'
       → result' ≡ straighten_block W H D plane set block ++ drop (W * H * D) result
       → work' ≡ replicate (room_of (slices_of W H D plane)) (pos 0) ++ drop (room_of (slices_of W H D plane)) work
-      → Answered v W H D plane (slices_of W H D plane) set block result work (variants.Straightened lines extremes) result' work'
+      → Answered v W H D plane (slices_of W H D plane) set block result work (Ok (record { lines = lines; extremes = extremes })) result' work'
   accepted-answer lines extremes result' work' e f counted found done clean =
       let each = slice_single f result result' done work work' f.work_places_lent clean in
       record {
@@ -251,7 +243,7 @@ module _ {W H D plane : ℕ} {set : Setting} {block result work : List ℤ} {r :
   verdict_of_lem = verdict_of W H D plane set block result work
 
   -- 0: it was accepted
-  pub was_accepted : number_of r ≡ 0 → verdict_of_lem ≡ Accepted
+  pub was_accepted : number_of r ≡ 0 → verdict_of_lem ≡ accepted
   was_accepted none = zero-accepted W H D plane set block (length result) (length work) (sym a.number ∙ none)
 
   pub was_fit : number_of r ≡ 0 → Fit W H D plane set block (length result) (length work)
@@ -265,12 +257,7 @@ module _ {W H D plane : ℕ} {set : Setting} {block result work : List ℤ} {r :
   pub sample_named : number_of r ≡ 6 → BadSample W H D block (depth_of r) (row_of r) (column_of r)
   sample_named e =
       let six = sym a.number ∙ e in
-      rw (a.depth, a.row, a.column, six)
-      (refused_sample W H D plane set block (length result) (length work) (verdict.row_of verdict_of_lem) (verdict.column_of verdict_of_lem) (under_six_lem verdict_of_lem six))
-    where
-      under_six_lem : (v : Verdict) → verdict.number_of v ≡ 6 → v ≡ Refused 6 (verdict.row_of v) (verdict.column_of v)
-      under_six_lem Accepted e = absurd (omega arith)
-      under_six_lem (Refused number row column) e = ap (λ n. Refused n row column) e
+      rw (a.depth, a.row, a.column, six) (refused_sample W H D plane set block (length result) (length work) six)
 
   -- and under every other number they are 0
   pub elsewhere_zero : (number_of r ≡ 6 → ⊥) → (depth_of r ≡ 0) × (row_of r ≡ 0) × (column_of r ≡ 0)

@@ -12,8 +12,9 @@ use Rattle.arith.specs.Move.{fraction, whole}
 use Rattle.lists.specs.Tab.{tab}
 use Rattle.lists.specs.Line.{wrap}
 use Rattle.lists.specs.Ends.{picked, extremes_of}
-use Rattle.refusals.specs.declared.Verdict.{Verdict}
-use Rattle.refusals.specs.declared.Verdict.TheVariants.{Accepted, Refused}
+use Rattle.std.specs.Prelude.{Err}
+use Rattle.refusals.specs.declared.Refusal.TheVariants.{BadSize, BadPlane, TooShort, BadCentre, TooFar, BadKernel, BadBackground}
+use Rattle.refusals.specs.Judging.{Verdict, accepted}
 use Rattle.refusals.specs.Tests.{short, bad_kernel, beyond_of, first_from, first_bad}
 use Rattle.refusals.proofs.First.{one_number_good}
 use Rattle.settings.specs.declared.Border.TheVariants.{Wrapped, Background}
@@ -27,10 +28,9 @@ use Rattle.passes.specs.Picture.{rows_moved}
 use Rattle.passes.specs.Count.{interpolated, count}
 use Rattle.acceptance.specs.Judge.{bad_centre, bad_shears, range}
 use Rattle.planes.specs.Slices.{slice_of}
-use Rattle.blocks.specs.declared.Outcome.{Outcome}
 use Rattle.blocks.specs.Block.{slices_of, slice_at, row_at, column_at, straighten_block}
 use Rattle.blocks.specs.Judge.{bad_sides, bad_plane, room_of, work_places, too_short, judged}
-use Rattle.blocks.specs.Answer.{number_of, depth_of, row_of, column_of, count_of, smallest_of, largest_of, outcome_by, count_over, smallest_over, largest_over, verdict_of}
+use Rattle.blocks.specs.Answer.{Outcome, number_of, depth_of, row_of, column_of, count_of, smallest_of, largest_of, outcome_by, count_over, smallest_over, largest_over, verdict_of}
 
 abbrev planes : List ℕ
 planes = 0 ∷ 1 ∷ 2 ∷ []
@@ -99,36 +99,36 @@ turned plane set = judged 2 3 4 plane set (replicate 24 (pos 0)) 24 48
 
 sides :
     sized 1 1 1 0 ∷ sized 0 1 1 0 ∷ sized 1 0 1 0 ∷ sized 1 1 0 0 ∷ sized 129 1 1 0 ∷ sized 1 129 1 0 ∷ sized 1 1 129 0 ∷ []
-    ≡ Accepted ∷ Refused 1 0 0 ∷ Refused 1 0 0 ∷ Refused 1 0 0 ∷ Refused 1 0 0 ∷ Refused 1 0 0 ∷ Refused 1 0 0 ∷ []
+    ≡ accepted ∷ Err BadSize ∷ Err BadSize ∷ Err BadSize ∷ Err BadSize ∷ Err BadSize ∷ Err BadSize ∷ []
 unfolding judged bad_sides bad_plane too_short short bad_centre bad_shears bad_kernel bad_background first_bad first_from beyond_of
 sides = refl
 
 -- computed up to number 6, which zeros do not meet
-longest_sides : sized 128 1 1 0 ∷ sized 1 128 1 1 ∷ sized 1 1 128 2 ∷ [] ≡ Accepted ∷ Accepted ∷ Accepted ∷ []
+longest_sides : sized 128 1 1 0 ∷ sized 1 128 1 1 ∷ sized 1 1 128 2 ∷ [] ≡ accepted ∷ accepted ∷ accepted ∷ []
 unfolding judged bad_sides bad_plane too_short short bad_centre bad_shears bad_kernel bad_background beyond_of
 longest_sides =
     rw (one_number_good range 128 1 128 (pos 0) (lit≤ tt) (lit≤ tt), one_number_good range 1 128 128 (pos 0) (lit≤ tt) (lit≤ tt)) refl
 
-planes_known : map (λ plane. sized 1 1 1 plane) (0 ∷ 1 ∷ 2 ∷ 3 ∷ []) ≡ Accepted ∷ Accepted ∷ Accepted ∷ Refused 17 0 0 ∷ []
+planes_known : map (λ plane. sized 1 1 1 plane) (0 ∷ 1 ∷ 2 ∷ 3 ∷ []) ≡ accepted ∷ accepted ∷ accepted ∷ Err BadPlane ∷ []
 unfolding judged bad_sides bad_plane too_short short bad_centre bad_shears bad_kernel bad_background first_bad first_from beyond_of
 planes_known = refl
 
 -- block and result take all W·H·D places, and work those of the plane's two sides
 buffers :
     lent 0 24 24 36 ∷ lent 0 23 24 36 ∷ lent 0 24 23 36 ∷ lent 0 24 24 35 ∷ lent 1 24 24 48 ∷ lent 1 24 24 47 ∷ lent 2 24 24 48 ∷ lent 2 24 24 47 ∷ []
-    ≡ Accepted ∷ Refused 2 0 0 ∷ Refused 2 0 0 ∷ Refused 2 0 0 ∷ Accepted ∷ Refused 2 0 0 ∷ Accepted ∷ Refused 2 0 0 ∷ []
+    ≡ accepted ∷ Err TooShort ∷ Err TooShort ∷ Err TooShort ∷ accepted ∷ Err TooShort ∷ accepted ∷ Err TooShort ∷ []
 unfolding judged bad_sides bad_plane too_short short bad_centre bad_shears bad_kernel bad_background first_bad first_from beyond_of
 buffers = refl
 
 -- the centre lies in the plane: 2 by 3, 2 by 4 and 3 by 4
 centres : map (λ plane. turned plane (set 0 1 2 (pos 0) (pos 0)) ∷ turned plane (set 0 2 2 (pos 0) (pos 0)) ∷ turned plane (set 0 1 3 (pos 0) (pos 0)) ∷ []) planes
-    ≡ (Accepted ∷ Refused 3 0 0 ∷ Refused 3 0 0 ∷ []) ∷ (Accepted ∷ Refused 3 0 0 ∷ Accepted ∷ []) ∷ (Accepted ∷ Accepted ∷ Accepted ∷ []) ∷ []
+    ≡ (accepted ∷ Err BadCentre ∷ Err BadCentre ∷ []) ∷ (accepted ∷ Err BadCentre ∷ accepted ∷ []) ∷ (accepted ∷ accepted ∷ accepted ∷ []) ∷ []
 unfolding judged bad_sides bad_plane too_short short bad_centre bad_shears bad_kernel bad_background first_bad first_from beyond_of
 centres = refl
 
 centres_past :
     turned 1 (set 0 1 4 (pos 0) (pos 0)) ∷ turned 2 (set 0 3 3 (pos 0) (pos 0)) ∷ turned 2 (set 0 2 4 (pos 0) (pos 0)) ∷ []
-    ≡ Refused 3 0 0 ∷ Refused 3 0 0 ∷ Refused 3 0 0 ∷ []
+    ≡ Err BadCentre ∷ Err BadCentre ∷ Err BadCentre ∷ []
 unfolding judged bad_sides bad_plane too_short short bad_centre bad_shears bad_kernel bad_background first_bad first_from beyond_of
 centres_past = refl
 
@@ -137,7 +137,7 @@ settings :
     map (λ plane.
     turned plane (set 2 0 0 (pos 4096) (negsuc 4095)) ∷ turned plane (set 0 0 0 (pos 4097) (pos 0)) ∷ turned plane (set 0 0 0 (pos 0) (negsuc 4096))
     ∷ turned plane (set 3 0 0 (pos 0) (pos 0)) ∷ turned plane (with_border still (Background (negsuc 32766))) ∷ turned plane (with_border still (Background (pos 32768))) ∷ []) planes
-    ≡ replicate 3 (Accepted ∷ Refused 4 0 0 ∷ Refused 4 0 0 ∷ Refused 5 0 0 ∷ Accepted ∷ Refused 12 0 0 ∷ [])
+    ≡ replicate 3 (accepted ∷ Err TooFar ∷ Err TooFar ∷ Err BadKernel ∷ accepted ∷ Err BadBackground ∷ [])
 unfolding judged bad_sides bad_plane too_short short bad_centre bad_shears bad_kernel bad_background first_bad first_from beyond_of
 settings = refl
 
@@ -151,7 +151,7 @@ lowest :
     ∷ judged 1 1 1 1 (with_border (set 3 0 0 (pos 0) (pos 0)) (Background (pos 32768))) (pos 32768 ∷ []) 1 12
     ∷ judged 1 1 1 1 (with_border still (Background (pos 32768))) (pos 32768 ∷ []) 1 12
     ∷ []
-    ≡ Refused 1 0 0 ∷ Refused 17 0 0 ∷ Refused 2 0 0 ∷ Refused 3 0 0 ∷ Refused 4 0 0 ∷ Refused 5 0 0 ∷ Refused 12 0 0 ∷ []
+    ≡ Err BadSize ∷ Err BadPlane ∷ Err TooShort ∷ Err BadCentre ∷ Err TooFar ∷ Err BadKernel ∷ Err BadBackground ∷ []
 unfolding judged bad_sides bad_plane too_short short bad_centre bad_shears bad_kernel bad_background first_bad first_from beyond_of
 lowest = refl
 
@@ -176,8 +176,8 @@ last-named :
 unfolding judged bad_sides bad_plane too_short short bad_centre bad_shears bad_kernel bad_background first_bad first_from beyond_of floor remainder fraction gone fraction_in interpolated count
 last-named = refl
 
--- under another number no place is named, whatever a verdict holds, and the height may be 0
-nowhere : figures (outcome_by 0 (Refused 1 7 7) 0 (extremes_of 1 [])) ≡ 1 ∷ 0 ∷ 0 ∷ 0 ∷ 0 ∷ []
+-- under another number no place is named, and the height may be 0
+nowhere : figures (outcome_by 0 (Err BadSize) 0 (extremes_of 1 [])) ≡ 1 ∷ 0 ∷ 0 ∷ 0 ∷ 0 ∷ []
 nowhere = refl
 
 -- ---- a block of 2 by 2 by 2, straightened by whole samples

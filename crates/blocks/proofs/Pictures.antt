@@ -197,20 +197,23 @@ module _ (W H D : ℕ) (set : Setting) (block : List ℤ) (hW : 0 < W) (hH : 0 <
   -- its extremes, once it stands straightened in a list, are those of its rows of pass 3
   module _ (list list' : List ℤ) (long : W * H * D ≤ length list') (done : Placed (straight W H D 0 set block) ((z + 1) * n) list list') where
     abbrev own : List ℤ
-    own = take (length list' - at) (drop at list')
+    own = take (at + n - at) (drop at list')
 
     third_placed : (q : ℕ) → q < n → slice_rows s set block z (q / W) (q % W) ≡ line own q
     third_placed q l =
         at_index (λ y x. slice_rows s set block z y x ≡ straight_slice s set block z y x) hW (third_slice s set hW hH block z) q l
         ∙ placed_at q l
-        ∙ sym (get_or-take (length list' - at) (drop at list') q (pos 0) (omega (arith, ends, long)) ∙ get_or-drop at list' q (pos 0) ∙ done.front (at + q) (below z n q l))
+        ∙ sym (get_or-take (at + n - at) (drop at list') q (pos 0) (omega arith) ∙ get_or-drop at list' q (pos 0) ∙ done.front (at + q) (below z n q l))
       where
         below : (z n q : ℕ) → q < n → z * n + q < (z + 1) * n
         below z n q l = omega arith
 
-    pub picture_extremes : extremes_of n own ≡ record { smallest = smallest_in_rows W H (slice_rows s set block z); largest = largest_in_rows W H (slice_rows s set block z) }
+    own_long : length own ≡ n
+    own_long = simp (length-take, length-drop) (omega (arith, ends, long))
+
+    pub picture_extremes : extremes_of (length own) own ≡ record { smallest = smallest_in_rows W H (slice_rows s set block z); largest = largest_in_rows W H (slice_rows s set block z) }
     picture_extremes =
-        rw (smallest-rows W H (slice_rows s set block z) (line own) hW hH third_placed, largest-rows W H (slice_rows s set block z) (line own) hW hH third_placed) refl
+        rw (own_long, smallest-rows W H (slice_rows s set block z) (line own) hW hH third_placed, largest-rows W H (slice_rows s set block z) (line own) hW hH third_placed) refl
 
 -- ---- the smallest and the largest of each picture
 abbrev lows : ℕ → ℕ → ℕ → Setting → List ℤ → ℕ → ℤ

@@ -12,9 +12,8 @@ use Rattle.arith.specs.Whole.{min_ℤ, max_ℤ}
 use Rattle.lists.specs.Line.{line}
 use Rattle.lists.specs.Ends.{picked, smallest, largest, extremes_of}
 use Rattle.lists.proofs.Ends.{Extreme, picked_same, smallest_is, largest_is}
-use Rattle.refusals.specs.declared.Verdict.{Verdict}
-use Rattle.refusals.specs.declared.Verdict.TheVariants.{Accepted}
 use Rattle.refusals.specs.Judging as verdict
+use Rattle.refusals.specs.Judging.{Verdict}
 use Rattle.settings.specs.declared.Setting.{Setting}
 use Rattle.passes.specs.Picture.{straighten}
 use Rattle.lists.proofs.Picture.{at_index, pictured_at}
@@ -23,14 +22,12 @@ use Rattle.acceptance.proofs.Accepted as alone
 use Rattle.planes.specs.declared.Slices.{Slices}
 use Rattle.planes.specs.Slices.{place_in, slice, slice_of}
 use Rattle.planes.proofs.Places.{slice-length}
-use Rattle.pictures.specs.declared.Outcome as declared
 use Rattle.pictures.specs.Answer as single
 use Rattle.pictures.specs.Answer.{kernel_in, row_moves, column_moves}
 use Rattle.pictures.proofs.Call as single-call
-use Rattle.blocks.specs.declared.Outcome.{Outcome}
 use Rattle.blocks.specs.Block.{slices_of}
 use Rattle.blocks.specs.Judge.{Fit}
-use Rattle.blocks.specs.Answer.{number_of, count_of, smallest_of, largest_of, outcome_by, count_in, count_over, Answered, Answer}
+use Rattle.blocks.specs.Answer.{Outcome, number_of, count_of, smallest_of, largest_of, outcome_by, count_in, count_over, Answered, Answer}
 use Rattle.blocks.specs.TwoCalls.{Copied, Kept}
 use Rattle.blocks.proofs.Call.{sides, whole, some_places, slice_fit, slice_straight, was_accepted, was_fit, was_left}
 
@@ -45,7 +42,7 @@ answered_once {v} {W} {H} {D} {plane} {s} {set} a b =
 -- ---- an accepted block call, and the single call on a picture that slice i of its block was copied into
 module _ {W H D plane : ℕ} {set : Setting} {block result work : List ℤ} {r : Outcome} {result' work' : List ℤ}
     (a : Answer W H D plane set block result work r result' work') (none : number_of r ≡ 0)
-    {i : ℕ} {picture own own-work : List ℤ} {q : declared.Outcome} {own' own-work' : List ℤ}
+    {i : ℕ} {picture own own-work : List ℤ} {q : single.Outcome} {own' own-work' : List ℤ}
     (b : Copied (slices_of W H D plane) set block i picture own own-work q own' own-work') where
   abbrev s : Slices
   s = slices_of W H D plane
@@ -80,10 +77,10 @@ module _ {W H D plane : ℕ} {set : Setting} {block result work : List ℤ} {r :
       }
 
   -- ---- the single call is accepted
-  accepted : singly.judged s.columns s.rows set picture (length own) (length own-work) ≡ Accepted
+  accepted : singly.judged s.columns s.rows set picture (length own) (length own-work) ≡ verdict.accepted
   accepted = alone.fit_accepted s.columns s.rows set picture (length own) (length own-work) own_fit
 
-  own_number : single.number_of q ≡ 0
+  own_number : verdict.number_of q ≡ 0
   own_number = b.answer.number ∙ ap verdict.number_of accepted
 
   -- ---- and leaves slice i of the block's result

@@ -1,68 +1,71 @@
 -- What the block call answers, and what it leaves in the result and in work. Assumes nothing.
-use Rattle.std.specs.Prelude.{ℕ, ◌*◌, ◌/◌, ◌%◌, ◌<◌, ◌≡◌, cond, List, ◌++◌, eqb, ℤ, pos, length, drop, replicate}
+use Rattle.std.specs.Prelude.{ℕ, ◌*◌, ◌/◌, ◌%◌, ◌<◌, ◌≡◌, cond, List, ◌++◌, eqb, ℤ, pos, length, drop, replicate, Result, Ok, Err}
 use Rattle.lists.specs.declared.Extremes.{Extremes}
 use Rattle.lists.specs.Ends.{smallest, largest, extremes_of, smallest_in_rows, largest_in_rows}
-use Rattle.refusals.specs.declared.Verdict.{Verdict}
-use Rattle.refusals.specs.declared.Verdict.TheVariants.{Accepted, Refused}
+use Rattle.refusals.specs.declared.Refusal.{Refusal}
+use Rattle.refusals.specs.declared.Refusal.TheVariants.{BadSample}
 use Rattle.refusals.specs.Tests.{AllWithin}
 use Rattle.refusals.specs.Judging as verdict
-use Rattle.refusals.specs.Judging.{when_accepted}
+use Rattle.refusals.specs.Judging.{Verdict, accepted, when_accepted}
 use Rattle.settings.specs.declared.Setting.{Setting}
 use Rattle.lists.specs.Picture.{Picture}
 use Rattle.passes.specs.Count.{count}
 use Rattle.planes.specs.declared.Slices.{Slices}
 use Rattle.planes.specs.Slices.{slice_of}
-use Rattle.pictures.specs.declared.Outcome as declared
-use Rattle.pictures.specs.declared.Outcome.TheVariants as alone
+use Rattle.pictures.specs.declared.Straightened.{Straightened}
 use Rattle.pictures.specs.Answer as single
 use Rattle.pictures.specs.Answer.{row_moves, column_moves, third_rows}
-use Rattle.blocks.specs.declared.Outcome.{Outcome}
-use Rattle.blocks.specs.declared.Outcome.TheVariants as variants
+use Rattle.blocks.specs.declared.BlockRefusal.{BlockRefusal}
 use Rattle.blocks.specs.Block.{slices_of, straighten_block}
 use Rattle.blocks.specs.Judge.{room_of, judged}
 
+-- what a call comes to: straightened, or refused
+abbrev pub Outcome : Type 0
+Outcome = Result Straightened BlockRefusal
+
 -- document 02's number, depth, row, column and count of each outcome
 abbrev pub number_of : Outcome → ℕ
-number_of (variants.Straightened lines extremes) = 0
-number_of (variants.Refused number depth row column) = number
+number_of (Ok told) = 0
+number_of (Err refused) = verdict.number refused.refusal
 
 abbrev pub depth_of : Outcome → ℕ
-depth_of (variants.Straightened lines extremes) = 0
-depth_of (variants.Refused number depth row column) = depth
+depth_of (Ok told) = 0
+depth_of (Err refused) = refused.depth
 
 abbrev pub row_of : Outcome → ℕ
-row_of (variants.Straightened lines extremes) = 0
-row_of (variants.Refused number depth row column) = row
+row_of (Ok told) = 0
+row_of (Err refused) = (verdict.place refused.refusal).row
 
 abbrev pub column_of : Outcome → ℕ
-column_of (variants.Straightened lines extremes) = 0
-column_of (variants.Refused number depth row column) = column
+column_of (Ok told) = 0
+column_of (Err refused) = (verdict.place refused.refusal).column
 
 abbrev pub count_of : Outcome → ℕ
-count_of (variants.Straightened lines extremes) = lines
-count_of (variants.Refused number depth row column) = 0
+count_of (Ok told) = told.lines
+count_of (Err refused) = 0
 
 -- the smallest and the largest sample of the result, 0 where refused
 abbrev pub smallest_of : Outcome → ℤ
-smallest_of (variants.Straightened lines extremes) = extremes.smallest
-smallest_of (variants.Refused number depth row column) = pos 0
+smallest_of (Ok told) = told.extremes.smallest
+smallest_of (Err refused) = pos 0
 
 abbrev pub largest_of : Outcome → ℤ
-largest_of (variants.Straightened lines extremes) = extremes.largest
-largest_of (variants.Refused number depth row column) = pos 0
+largest_of (Ok told) = told.extremes.largest
+largest_of (Err refused) = pos 0
 
 -- a figure that 6 alone tells: 0 under every other number
 abbrev pub only_six : ℕ → ℕ → ℕ
 only_six number figure = cond (eqb number 6) figure 0
 
 -- a refusal by depth, row and column: row r of all pictures, one below the other, is row r modulo H at the depth r / H
-abbrev pub refused_at : ℕ → ℕ → ℕ → ℕ → Outcome
-refused_at H number row column = variants.Refused number (only_six number (row / H)) (only_six number (row % H)) (only_six number column)
+abbrev pub refused_at : ℕ → Refusal → BlockRefusal
+refused_at H (BadSample p) = record { refusal = BadSample (record { row = p.row % H; column = p.column }); depth = p.row / H }
+refused_at H refusal = record { refusal = refusal; depth = 0 }
 
 -- the outcome of a verdict, with the lines interpolated and the extremes of the result when accepted
 abbrev pub outcome_by : ℕ → Verdict → ℕ → Extremes → Outcome
-outcome_by H Accepted lines extremes = variants.Straightened lines extremes
-outcome_by H (Refused number row column) lines extremes = refused_at H number row column
+outcome_by H (Ok u) lines extremes = Ok (record { lines = lines; extremes = extremes })
+outcome_by H (Err refusal) lines extremes = Err (refused_at H refusal)
 
 -- the lines interpolated in one slice, and in all of them
 abbrev pub count_in : Slices → Setting → ℕ
@@ -83,8 +86,8 @@ abbrev pub largest_over : Slices → Setting → List ℤ → ℤ
 largest_over s set block = largest (λ i. largest_in_rows s.columns s.rows (slice_rows s set block i)) s.slices
 
 -- the outcome of the single call on a slice that was left so
-abbrev pub slice_outcome : Slices → Setting → List ℤ → declared.Outcome
-slice_outcome s set left = alone.Straightened (count_in s set) (extremes_of (s.columns * s.rows) left)
+abbrev pub slice_outcome : Slices → Setting → List ℤ → single.Outcome
+slice_outcome s set left = Ok (record { lines = count_in s set; extremes = extremes_of (s.columns * s.rows) left })
 
 -- what the tests say of a call
 abbrev pub verdict_of : ℕ → ℕ → ℕ → ℕ → Setting → List ℤ → List ℤ → List ℤ → Verdict
@@ -106,9 +109,9 @@ pub record Answered (v : Verdict) (W H D plane : ℕ) (s : Slices) (set : Settin
   pub smallest : smallest_of r ≡ when_accepted v (smallest_over s set block) (pos 0)
   pub largest : largest_of r ≡ when_accepted v (largest_over s set block) (pos 0)
   pub written : result' ≡ when_accepted v (straighten_block W H D plane set block ++ drop (W * H * D) result) result
-  pub readable : v ≡ Accepted → AllWithin 1048576 (W * H * D) result'
+  pub readable : v ≡ accepted → AllWithin 1048576 (W * H * D) result'
   pub cleared : work' ≡ when_accepted v (replicate (room_of s) (pos 0) ++ drop (room_of s) work) work
-  pub single : v ≡ Accepted → (i : ℕ) → i < s.slices
+  pub single : v ≡ accepted → (i : ℕ) → i < s.slices
       → single.Answer s.columns s.rows set (slice_of s block i) (slice_of s result i) work (slice_outcome s set (slice_of s result' i)) (slice_of s result' i) work'
 
 -- the answer of a call with the verdict of the tests

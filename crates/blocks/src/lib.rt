@@ -6,14 +6,15 @@
 
 ghost use Rattle.std.specs.Prelude.{◌≡◌, ◌++◌, ◌*◌, ◌≤◌, max, pos, length, drop, replicate};
 ghost use Rattle.lists.specs.Ends.{extremes_of};
-ghost use Rattle.blocks.specs.declared.Outcome.TheVariants.{Straightened};
+ghost use Rattle.refusals.specs.Judging.{number};
 ghost use Rattle.blocks.specs.Block.{slices_of, straighten_block};
 ghost use Rattle.blocks.specs.Judge.{bad_sides, too_short, room_of, work_places, judged, Fit};
 ghost use Rattle.blocks.specs.Answer.{refused_at, count_over, Answer};
 
 use lists::Extremes;
+use pictures::Straightened;
 use planes::Slices;
-use refusals::Verdict;
+use refusals::{Place, Refusal};
 use settings::Setting;
 
 // The samples of a block that is straightened are within plus or minus this, in 128ths of a grey.
@@ -25,47 +26,65 @@ const SIDE: usize = 128;
 // As far from 0 as a sample of a result can be, and as readings take: no extreme is farther.
 const FARTHEST: i32 = 1_048_576;
 
-// What a call comes to: straightened, with the number of lines interpolated over all slices and the smallest and the largest sample of the result; or
-// refused under a number, with a depth, a row and a column that are 0 except under 6.
+// Why a block call is refused. The place of a bad sample has the row within the picture at its depth; every other refusal has the depth 0.
 #[derive(Clone, Copy)]
-pub enum Outcome {
-    Straightened(u32, Extremes),
-    Refused(u32, usize, usize, usize),
+pub struct BlockRefusal {
+    pub refusal: Refusal,
+    pub depth: usize,
 }
 
-// The slices of a plane.
-fn slices_of(width: usize, height: usize, depth: usize, plane: u32) -> Slices
-    requires { (width ≤ 128) × (height ≤ 128) }
-    ensures { result ≡ slices_of width height depth plane }
-{
-    let places = width * height;
-    if plane == 0 {
-        return Slices {
-            columns: width,
-            rows: height,
-            slices: depth,
-            along: 1,
-            across: width,
-            step: places,
-        };
+// The sides of a block, in samples.
+#[derive(Clone, Copy)]
+struct Sides {
+    width: usize,
+    height: usize,
+    depth: usize,
+}
+
+impl Sides {
+    // Number 1: whether a side is 0 or over 128.
+    #[tactic(auto, unfolding(crate::specs::Judge::bad_sides))]
+    fn bad(self) -> bool
+        ensures { result ≡ bad_sides self.width self.height self.depth }
+    {
+        refusals::side_beyond(self.width, SIDE)
+            || refusals::side_beyond(self.height, SIDE)
+            || refusals::side_beyond(self.depth, SIDE)
     }
-    if plane == 1 {
-        return Slices {
-            columns: width,
-            rows: depth,
-            slices: height,
-            along: 1,
-            across: places,
-            step: width,
-        };
-    }
-    Slices {
-        columns: height,
-        rows: depth,
-        slices: width,
-        along: width,
-        across: places,
-        step: 1,
+
+    // The slices of a plane. The plane stays a number: where it is read, the tests have passed it, and an enum would have to be handed on by `judge`,
+    // which answers a verdict alone.
+    fn slices(self, plane: u32) -> Slices
+        requires { (self.width ≤ 128) × (self.height ≤ 128) }
+        ensures { result ≡ slices_of self.width self.height self.depth plane }
+    {
+        let places = self.width * self.height;
+        match plane {
+            0 => Slices {
+                columns: self.width,
+                rows: self.height,
+                slices: self.depth,
+                along: 1,
+                across: self.width,
+                step: places,
+            },
+            1 => Slices {
+                columns: self.width,
+                rows: self.depth,
+                slices: self.height,
+                along: 1,
+                across: places,
+                step: self.width,
+            },
+            _ => Slices {
+                columns: self.height,
+                rows: self.depth,
+                slices: self.width,
+                along: self.width,
+                across: places,
+                step: 1,
+            },
+        }
     }
 }
 
@@ -77,116 +96,106 @@ fn room_of(s: Slices) -> usize
     acceptance::room(s.columns, s.rows)
 }
 
-// Number 1: whether a side of a block is 0 or over 128.
-fn bad_sides(width: usize, height: usize, depth: usize) -> bool
-    ensures { result ≡ bad_sides width height depth }
-{
-    if refusals::side_beyond(width, SIDE) {
-        return true;
-    }
-    if refusals::side_beyond(height, SIDE) {
-        return true;
-    }
-    refusals::side_beyond(depth, SIDE)
-}
-
 // The work places that a block takes in a plane, for a caller, who may ask about any: 0 for one that number 1 or 17 refuses.
+#[tactic(auto, using(crate::proofs::Accepted::sides_good, crate::proofs::Accepted::sides_of), unfolding(crate::specs::Judge::work_places, crate::specs::Judge::bad_plane))]
 pub fn work_places(width: usize, height: usize, depth: usize, plane: u32) -> usize
     ensures { result ≡ work_places width height depth plane }
 {
-    if bad_sides(width, height, depth) {
+    let sides = Sides {
+        width,
+        height,
+        depth,
+    };
+    if sides.bad() || 2 < plane {
         return 0;
     }
-    if 2 < plane {
-        return 0;
-    }
-    room_of(slices_of(width, height, depth, plane))
+    room_of(sides.slices(plane))
 }
 
 // Number 2: whether a buffer is too short, by their numbers of places.
+#[tactic(auto, unfolding(crate::specs::Judge::too_short, refusals::specs::Tests::short))]
 fn too_short(places: usize, room: usize, block: usize, res: usize, work: usize) -> bool
     ensures { result ≡ too_short places room block res work }
 {
-    if block < places {
-        return true;
-    }
-    if res < places {
-        return true;
-    }
-    work < room
+    block < places || res < places || work < room
 }
 
-// The number that a call is refused under, of a call with a result and work of so many places; under 6 with the row that the sample has in all pictures,
+// What a call is refused under, of a call with a result and work of so many places; under 6 with the row that the sample has in all pictures,
 // one below the other.
+#[tactic(auto, using(crate::proofs::Accepted::sides_good, crate::proofs::Accepted::sides_of, crate::proofs::Accepted::long_enough), unfolding(crate::specs::Judge::judged, crate::specs::Judge::bad_plane))]
 fn judge(
-    width: usize,
-    height: usize,
-    depth: usize,
+    sides: Sides,
     plane: u32,
     setting: Setting,
     block: &[i32],
     res: usize,
     work: usize,
-) -> Verdict
-    ensures { result ≡ judged width height depth plane setting block.now res work }
+) -> Result<(), Refusal>
+    ensures { result ≡ judged sides.width sides.height sides.depth plane setting block.now res work }
 {
-    if bad_sides(width, height, depth) {
-        return Verdict::Refused(1, 0, 0);
+    if sides.bad() {
+        return Err(Refusal::BadSize);
     }
     if 2 < plane {
-        return Verdict::Refused(17, 0, 0);
+        return Err(Refusal::BadPlane);
     }
-    let s = slices_of(width, height, depth, plane);
-    let room = room_of(s);
-    if too_short(width * height * depth, room, block.len(), res, work) {
-        return Verdict::Refused(2, 0, 0);
+    let s = sides.slices(plane);
+    let places = sides.width * sides.height * sides.depth;
+    if too_short(places, room_of(s), block.len(), res, work) {
+        return Err(Refusal::TooShort);
     }
-    let verdict = acceptance::judge_setting(s.columns, s.rows, setting);
-    match verdict {
-        Verdict::Refused(_, _, _) => verdict,
-        Verdict::Accepted => refusals::scanned(block, width, depth * height, RANGE),
-    }
+    acceptance::judge_setting(s.columns, s.rows, setting)?;
+    refusals::scanned(block, sides.width, sides.depth * sides.height, RANGE)
 }
 
 // A refusal by depth, row and column: row `row` of all pictures, one below the other, is one of the picture at the depth row / height.
-fn refused(height: usize, number: u32, row: usize, column: usize) -> Outcome
-    requires { number ≡ 6 → 1 ≤ height }
-    ensures { result ≡ refused_at height number row column }
+fn refused(height: usize, refusal: Refusal) -> BlockRefusal
+    requires { number refusal ≡ 6 → 1 ≤ height }
+    ensures { result ≡ refused_at height refusal }
 {
-    if number == 6 {
-        return Outcome::Refused(number, row / height, row % height, column);
+    match refusal {
+        Refusal::BadSample(Place { row, column }) => BlockRefusal {
+            refusal: Refusal::BadSample(Place {
+                row: row % height,
+                column,
+            }),
+            depth: row / height,
+        },
+        _ => BlockRefusal { refusal, depth: 0 },
     }
-    Outcome::Refused(number, 0, 0, 0)
 }
 
 // The slices of plane 0, which are the pictures of the block, straightened one after the other: each is copied into the result when its turn comes, and so
 // is near for all of its passes, and for its extremes. Answers those of all of them.
 fn straighten_pictures(
-    width: usize,
-    height: usize,
-    depth: usize,
+    sides: Sides,
     setting: Setting,
     block: &[i32],
     res: &mut [i32],
     work: &mut [i32],
 ) -> Extremes
-    requires { Fit width height depth 0 setting block.now (length res.old) (length work.old) }
-    ensures res_after { res.new ≡ straighten_block width height depth 0 setting block.now ++ drop (width * height * depth) res.old }
-    ensures work_after { work.new ≡ replicate (12 * max width height) (pos 0) ++ drop (12 * max width height) work.old }
-    ensures value { result ≡ extremes_of (width * height * depth) res.new }
+    requires { Fit sides.width sides.height sides.depth 0 setting block.now (length res.old) (length work.old) }
+    ensures res_after { res.new ≡ straighten_block sides.width sides.height sides.depth 0 setting block.now ++ drop (sides.width * sides.height * sides.depth) res.old }
+    ensures work_after { work.new ≡ replicate (12 * max sides.width sides.height) (pos 0) ++ drop (12 * max sides.width sides.height) work.old }
+    ensures value { result ≡ extremes_of (sides.width * sides.height * sides.depth) res.new }
 {
-    let places = width * height;
+    let places = sides.width * sides.height;
     let mut extremes = Extremes {
         smallest: FARTHEST,
-        largest: 0 - FARTHEST,
+        largest: -FARTHEST,
     };
-    let mut z: usize = 0;
-    while z < depth {
+    for z in 0..sides.depth {
         let at = z * places;
-        pictures::straighten_accepted(width, height, setting, &block[at..], &mut res[at..], work);
-        let own = lists::extremes_of(&res[at..], places);
+        pictures::straighten_accepted(
+            sides.width,
+            sides.height,
+            setting,
+            &block[at..],
+            &mut res[at..],
+            work,
+        );
+        let own = lists::extremes_of(&res[at..at + places]);
         extremes = lists::joined(extremes, own);
-        z += 1;
     }
     extremes
 }
@@ -194,53 +203,50 @@ fn straighten_pictures(
 // The slices of a plane straightened together: the block is copied into the result, its slices are straightened where they lie there, and the work places
 // are cleared. Answers the extremes of the result.
 fn straighten_together(
-    width: usize,
-    height: usize,
-    depth: usize,
+    sides: Sides,
     plane: u32,
     setting: Setting,
     block: &[i32],
     res: &mut [i32],
     work: &mut [i32],
 ) -> Extremes
-    requires { Fit width height depth plane setting block.now (length res.old) (length work.old) }
-    ensures res_after { res.new ≡ straighten_block width height depth plane setting block.now ++ drop (width * height * depth) res.old }
-    ensures work_after { work.new ≡ replicate (room_of (slices_of width height depth plane)) (pos 0) ++ drop (room_of (slices_of width height depth plane)) work.old }
-    ensures value { result ≡ extremes_of (width * height * depth) res.new }
+    requires { Fit sides.width sides.height sides.depth plane setting block.now (length res.old) (length work.old) }
+    ensures res_after { res.new ≡ straighten_block sides.width sides.height sides.depth plane setting block.now ++ drop (sides.width * sides.height * sides.depth) res.old }
+    ensures work_after { work.new ≡ replicate (room_of (slices_of sides.width sides.height sides.depth plane)) (pos 0) ++ drop (room_of (slices_of sides.width sides.height sides.depth plane)) work.old }
+    ensures value { result ≡ extremes_of (sides.width * sides.height * sides.depth) res.new }
 {
-    let places = width * height * depth;
-    let s = slices_of(width, height, depth, plane);
+    let places = sides.width * sides.height * sides.depth;
+    let s = sides.slices(plane);
     let room = room_of(s);
-    lists::copy(block, res, places);
+    res[..places].copy_from_slice(&block[..places]);
     planes::straighten_slices(&mut res[..places], &mut work[..room], s, setting);
-    lists::clear(work, room);
-    lists::extremes_of(res, places)
+    lists::clear(&mut work[..room]);
+    lists::extremes_of(&res[..places])
 }
 
 // An accepted call: every slice is straightened into the result. Every slice has as many lines to interpolate.
 fn straighten_accepted(
-    width: usize,
-    height: usize,
-    depth: usize,
+    sides: Sides,
     plane: u32,
     setting: Setting,
     block: &[i32],
     res: &mut [i32],
     work: &mut [i32],
-) -> Outcome
-    requires { Fit width height depth plane setting block.now (length res.old) (length work.old) }
-    ensures res_after { res.new ≡ straighten_block width height depth plane setting block.now ++ drop (width * height * depth) res.old }
-    ensures work_after { work.new ≡ replicate (room_of (slices_of width height depth plane)) (pos 0) ++ drop (room_of (slices_of width height depth plane)) work.old }
-    ensures value { result ≡ Straightened (count_over (slices_of width height depth plane) setting) (extremes_of (width * height * depth) res.new) }
+) -> Straightened
+    requires { Fit sides.width sides.height sides.depth plane setting block.now (length res.old) (length work.old) }
+    ensures res_after { res.new ≡ straighten_block sides.width sides.height sides.depth plane setting block.now ++ drop (sides.width * sides.height * sides.depth) res.old }
+    ensures work_after { work.new ≡ replicate (room_of (slices_of sides.width sides.height sides.depth plane)) (pos 0) ++ drop (room_of (slices_of sides.width sides.height sides.depth plane)) work.old }
+    ensures lines { result.lines ≡ count_over (slices_of sides.width sides.height sides.depth plane) setting }
+    ensures extremes { result.extremes ≡ extremes_of (sides.width * sides.height * sides.depth) res.new }
 {
-    let s = slices_of(width, height, depth, plane);
+    let s = sides.slices(plane);
     let lines = s.slices as u32 * offsets::count_of(s.columns, s.rows, setting);
     if plane == 0 {
-        let extremes = straighten_pictures(width, height, depth, setting, block, res, work);
-        return Outcome::Straightened(lines, extremes);
+        let extremes = straighten_pictures(sides, setting, block, res, work);
+        return Straightened { lines, extremes };
     }
-    let extremes = straighten_together(width, height, depth, plane, setting, block, res, work);
-    Outcome::Straightened(lines, extremes)
+    let extremes = straighten_together(sides, plane, setting, block, res, work);
+    Straightened { lines, extremes }
 }
 
 // Straightens a block of `width` by `height` by `depth` samples into `result`: every slice in `plane` as a picture of its own, with the kernel, the centre,
@@ -259,23 +265,17 @@ pub fn straighten(
     block: &[i32],
     res: &mut [i32],
     work: &mut [i32],
-) -> Outcome
+) -> Result<Straightened, BlockRefusal>
     ensures { Answer width height depth plane setting block.now res.old work.old result res.new work.new }
 {
-    let verdict = judge(
+    let sides = Sides {
         width,
         height,
         depth,
-        plane,
-        setting,
-        block,
-        res.len(),
-        work.len(),
-    );
+    };
+    let verdict = judge(sides, plane, setting, block, res.len(), work.len());
     match verdict {
-        Verdict::Refused(number, row, column) => refused(height, number, row, column),
-        Verdict::Accepted => straighten_accepted(
-            width, height, depth, plane, setting, block, res, work,
-        ),
+        Err(refusal) => Err(refused(height, refusal)),
+        Ok(()) => Ok(straighten_accepted(sides, plane, setting, block, res, work)),
     }
 }

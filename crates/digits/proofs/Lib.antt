@@ -4,10 +4,8 @@
 --     Value   what digits write, read from the front
 --     Place   places filled from the end, and spelt
 --     Filled  a buffer filled from its own places
---     Word    two's complement at the machine's numbers
 pub mod Test
 pub mod Passes
 pub mod Value
 pub mod Place
-pub mod Word
 pub mod Filled

@@ -1,17 +1,13 @@
 -- What digits write, read from the front, in a loop over four at most. Assumes nothing.
 use Prim.Native.Nat.{ℕ, ◌+◌, ◌*◌, ◌^◌, ◌≤◌, ◌<◌}
 use mathlib.Core.List.{List}
-use mathlib.Core.Path.{◌≡◌, refl}
+use mathlib.Core.Path.{◌≡◌}
 use native.Mathlib.Nat.{pow-le-pow_right, pow-suc, zero-lt-suc, le_trans}
 use native.Mathlib.Numerals.{add-one}
 use native.Mathlib.Omega.{arith}
 use lib.ListN.{length, drop, get_or, drop_of_length-le}
 use lib.Seq.{drop-cons}
 use Rattle.digits.specs.Digit.{digit_value, value_from, hex_value}
-
-pub value_none : (s : List ℕ) → value_from 0 (drop 0 s) ≡ hex_value s
-unfolding hex_value
-value_none s = refl
 
 pub value_more : (s : List ℕ) (v i : ℕ) → i < length s → value_from v (drop i s) ≡ hex_value s
     → value_from (v * 16 + digit_value (get_or s i 0)) (drop (i + 1) s) ≡ hex_value s

@@ -16,7 +16,7 @@ use Rattle.arith.specs.Move.{fraction, whole}
 use Rattle.lists.specs.Line.{Line, wrap}
 use Rattle.settings.specs.declared.Border.{Border}
 use Rattle.settings.specs.declared.Border.TheVariants.{Wrapped, Background}
-use Rattle.kernels.specs.Kernel.{Kernel}
+use Rattle.kernels.specs.declared.Kernel.{Kernel}
 use Rattle.moves.specs.Move.{first, moved}
 use Rattle.moves.specs.Border.{framed, far, bordered, grey}
 use Rattle.moves.proofs.Border.{framed_both, framed_every}

@@ -8,7 +8,7 @@ use Rattle.arith.proofs.Move.{multiple_whole}
 use Rattle.lists.specs.Line.{line}
 use Rattle.settings.specs.declared.Border.{Border}
 use Rattle.settings.specs.declared.Border.TheVariants.{Wrapped, Background}
-use Rattle.kernels.specs.Kernel.{Kernel}
+use Rattle.kernels.specs.declared.Kernel.{Kernel}
 use Rattle.moves.specs.Border.{grey}
 use Rattle.lists.specs.Picture.{picture, pictured}
 use Rattle.passes.specs.Picture.{straighten}

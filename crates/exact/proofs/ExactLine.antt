@@ -10,7 +10,9 @@ use Rattle.arith.proofs.Cert.{equal, ◌⊙◌, ◌⊜◌}
 use Rattle.arith.proofs.Laws.{cancel, *ℤ_positive}
 use Rattle.lists.specs.Line.{Line, wrap}
 use Rattle.lists.proofs.Cyclic.{wrap_periodic}
-use Rattle.kernels.specs.Kernel.{Kernel, Linear, Keys, Spline, norm, D³}
+use Rattle.kernels.specs.declared.Kernel.{Kernel}
+use Rattle.kernels.specs.declared.Kernel.TheVariants.{Linear, Keys, Spline}
+use Rattle.kernels.specs.Kernel.{norm, D³}
 use Rattle.moves.specs.Move.{mixed}
 use Rattle.kernels.proofs.Weights.{norm_positive}
 use Rattle.moves.proofs.Mixed.{mixed_times}

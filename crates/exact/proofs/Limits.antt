@@ -11,7 +11,8 @@ use Rattle.arith.proofs.Bridge.{bridge, all2}
 use Rattle.lists.specs.Line.{line}
 use Rattle.settings.specs.declared.Border.{Border}
 use Rattle.settings.specs.declared.Border.TheVariants.{Wrapped, Background}
-use Rattle.kernels.specs.Kernel.{Kernel, Linear, Keys, Spline}
+use Rattle.kernels.specs.declared.Kernel.{Kernel}
+use Rattle.kernels.specs.declared.Kernel.TheVariants.{Linear, Keys, Spline}
 use Rattle.exact.specs.ExactPicture.{ExactList}
 use Rattle.exact.specs.Limits.{limit, OneGrey, Demand3}
 use Rattle.exact.proofs.Border.{Agrees}

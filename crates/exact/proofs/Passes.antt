@@ -9,7 +9,8 @@ use lib.Signed.{◌≤ℤ◌, ◌<ℤ◌, le_z_yes, lt_z_yes}
 use Rattle.arith.proofs.Bridge.{bridge, all3}
 use Rattle.arith.proofs.Within.{Within}
 use Rattle.settings.specs.declared.Border.{Border}
-use Rattle.kernels.specs.Kernel.{Kernel, Linear, Keys, Spline}
+use Rattle.kernels.specs.declared.Kernel.{Kernel}
+use Rattle.kernels.specs.declared.Kernel.TheVariants.{Linear, Keys, Spline}
 use Rattle.arith.specs.Move.{fraction}
 use Rattle.moves.specs.Border.{grey}
 use Rattle.moves.proofs.Reach.{reach}

@@ -19,7 +19,9 @@ use Rattle.lists.specs.Line.{line, wrap}
 use Rattle.lists.specs.Tab.{tab}
 use Rattle.settings.specs.declared.Border.{Border}
 use Rattle.settings.specs.declared.Border.TheVariants.{Wrapped, Background}
-use Rattle.kernels.specs.Kernel.{Kernel, Keys, Spline, norm, D³, weigh}
+use Rattle.kernels.specs.declared.Kernel.{Kernel}
+use Rattle.kernels.specs.declared.Kernel.TheVariants.{Keys, Spline}
+use Rattle.kernels.specs.Kernel.{norm, D³, weigh}
 use Rattle.spline.specs.Coefficients.{filter, run, u, down, back, v, scaled, coefficient}
 use Rattle.moves.specs.Move.{first, mixed, source, moved}
 use Rattle.moves.specs.Border.{framed, far, bordered, grey}

@@ -18,7 +18,9 @@ use Rattle.lists.specs.Line.{Line, wrap, Periodic}
 use Rattle.lists.proofs.Cyclic.{wrap_periodic, wrap_own, everywhere}
 use Rattle.arith.proofs.Within.{Within, round_within, cancel_within}
 use Rattle.spline.specs.Coefficients.{coefficient}
-use Rattle.kernels.specs.Kernel.{Kernel, Linear, Keys, Spline, D³, norm, weight, weigh}
+use Rattle.kernels.specs.declared.Kernel.{Kernel}
+use Rattle.kernels.specs.declared.Kernel.TheVariants.{Linear, Keys, Spline}
+use Rattle.kernels.specs.Kernel.{D³, norm, weight, weigh}
 use Rattle.arith.specs.Move.{D, fraction}
 use Rattle.kernels.proofs.Weights.{gain, most, norm_nonzero, norm_positive, weigh_within}
 use Rattle.moves.specs.Move.{first, mixed, source, moved}

@@ -13,7 +13,9 @@ use Rattle.passes.proofs.Reach.{sample_range}
 use Rattle.arith.proofs.Within.{Within, size_within}
 use Rattle.settings.specs.declared.Border.{Border}
 use Rattle.settings.specs.declared.Border.TheVariants.{Wrapped, Background}
-use Rattle.kernels.specs.Kernel.{Kernel, Linear, Keys, Spline, norm, D³}
+use Rattle.kernels.specs.declared.Kernel.{Kernel}
+use Rattle.kernels.specs.declared.Kernel.TheVariants.{Linear, Keys, Spline}
+use Rattle.kernels.specs.Kernel.{norm, D³}
 use Rattle.moves.specs.Border.{grey, far}
 use Rattle.arith.specs.Move.{fraction}
 use Rattle.exact.specs.ExactLine.{ExactLine, OnBackground, ExactMove}

@@ -10,7 +10,9 @@ use Rattle.arith.proofs.Cert.{equal, ◌⊙◌}
 use Rattle.lists.specs.Line.{Line, wrap}
 use Rattle.lists.proofs.Cyclic.{wrap_every}
 use Rattle.arith.proofs.Within.{Within}
-use Rattle.kernels.specs.Kernel.{Kernel, Linear, Keys, Spline, norm, D³, weigh}
+use Rattle.kernels.specs.declared.Kernel.{Kernel}
+use Rattle.kernels.specs.declared.Kernel.TheVariants.{Linear, Keys, Spline}
+use Rattle.kernels.specs.Kernel.{norm, D³, weigh}
 use Rattle.arith.specs.Move.{fraction}
 use Rattle.moves.specs.Move.{first, mixed, moved}
 use Rattle.moves.proofs.Mixed.{mixed-grey}

@@ -2,7 +2,7 @@
 -- It is worked out from the samples and the moves alone. Assumes nothing.
 use Rattle.std.specs.Prelude.{◌≡◌, List, ℕ, ◌*◌, ◌<◌, ℤ, pos, ◌<ℤ◌, length}
 use Rattle.settings.specs.declared.Border.{Border}
-use Rattle.kernels.specs.Kernel.{Kernel}
+use Rattle.kernels.specs.declared.Kernel.{Kernel}
 use Rattle.lists.specs.Picture.{Picture, picture}
 use Rattle.passes.specs.Picture.{turned}
 use Rattle.exact.specs.ExactLine.{ExactMove}

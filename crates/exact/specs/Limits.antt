@@ -4,7 +4,8 @@ use Rattle.arith.specs.Move.{D}
 use Rattle.lists.specs.Line.{line}
 use Rattle.settings.specs.declared.Border.{Border}
 use Rattle.settings.specs.declared.Border.TheVariants.{Wrapped, Background}
-use Rattle.kernels.specs.Kernel.{Kernel, Linear, Keys, Spline}
+use Rattle.kernels.specs.declared.Kernel.{Kernel}
+use Rattle.kernels.specs.declared.Kernel.TheVariants.{Linear, Keys, Spline}
 use Rattle.exact.specs.ExactPicture.{ExactList}
 
 -- twice the limit in units: 3/2 for linear, 2 for Keys, 10 for the cubic spline

@@ -9,22 +9,25 @@ use lib.Dec.{leb, lit≤}
 use lib.IntN.{ℤ, pos, negsuc}
 use lib.ListN.{length, take, drop, replicate}
 use lib.Seq.{length-take-le}
+use Rattle.lists.specs.Tab.{tab}
 use Rattle.lists.specs.Line.{line}
-use Rattle.refusals.specs.declared.Verdict.{Verdict}
-use Rattle.refusals.specs.declared.Verdict.TheVariants.{Accepted, Refused}
+use Rattle.std.specs.Prelude.{Ok, Err}
+use Rattle.refusals.specs.declared.Refusal.{Refusal}
+use Rattle.refusals.specs.declared.Refusal.TheVariants.{BadSize, TooShort, TooFar, BadKernel, BadSample, Outside}
 use Rattle.refusals.specs.Tests.{bad_side, short, bad_kernel, beyond_of, first_from, first_bad}
-use Rattle.refusals.specs.Judging.{refused_if, of_found}
+use Rattle.refusals.specs.Judging.{Verdict, accepted, refused_if, of_found, number_of}
 use Rattle.refusals.proofs.First.{one_number_good}
-use Rattle.refusals.proofs.Judging.{AcceptedByZero}
+use Rattle.refusals.proofs.Judging.{refused_if-accepted, some_number, accepted_by_zero}
+use Rattle.refusals.proofs.Figures.{and_then-refused_if}
 use Rattle.settings.specs.declared.Border.TheVariants.{Wrapped}
 use Rattle.kernels.specs.Kernel.{kernel_of}
 use Rattle.moves.specs.Move.{source}
 use Rattle.moves.specs.Border.{move_in}
 use Rattle.lines.specs.Answer.{farthest, range, too_short, judged_by}
-use Rattle.lines.proofs.Answer.{passed, by_zero}
+use Rattle.lines.proofs.Answer.{passed}
 use Rattle.explanations.specs.declared.Parts.{Parts}
-use Rattle.explanations.specs.Made.{parts_of, no_parts}
-use Rattle.explanations.specs.Answer.{judged, Explainable, source_of, explanation_of, Shown, Explained}
+use Rattle.explanations.specs.Made.{parts_of, no_term, no_parts}
+use Rattle.explanations.specs.Answer.{judged, Explainable, source_of, explanation_of, parts_of_answer, Shown, Explained}
 use Rattle.explanations.proofs.Made.{sum-mixed, quotient_moved, parts_shown}
 
 -- ---- verdicts at the ends of each range and in the order of the numbers, worked out by the checker
@@ -46,12 +49,12 @@ accepted_at_the_ends :
     ∷ call 2 2 (negsuc 4194303) 1 three 12
     ∷ call 1 1 (pos 0) 0 (pos 5 ∷ []) 6
     ∷ [])
-    ≡ replicate 3 Accepted
+    ≡ replicate 3 accepted
 unfolding judged judged_by too_short bad_side short bad_kernel beyond_of first_bad first_from
 accepted_at_the_ends = refl
 
 -- computed up to number 6, which zeros do not meet
-longest_accepted : verdict_of (call 1024 1 (pos 0) 1023 (replicate 1024 (pos 0)) 6144) ≡ Accepted
+longest_accepted : verdict_of (call 1024 1 (pos 0) 1023 (replicate 1024 (pos 0)) 6144) ≡ accepted
 unfolding judged judged_by too_short bad_side short bad_kernel beyond_of
 longest_accepted = rw (one_number_good range 1024 1 1024 (pos 0) (lit≤ tt) (lit≤ tt)) refl
 
@@ -69,16 +72,16 @@ refused_past_the_ends :
     ∷ call 3 0 (pos 0) 2 three 18
     ∷ call 2 0 (pos 0) 0 (pos 0 ∷ negsuc 294912 ∷ []) 12
     ∷ [])
-    ≡ Refused 1 0 0
-    ∷ Refused 1 0 0
-    ∷ Refused 2 0 0
-    ∷ Refused 2 0 0
-    ∷ Refused 4 0 0
-    ∷ Refused 4 0 0
-    ∷ Refused 5 0 0
-    ∷ Refused 7 0 0
-    ∷ Refused 6 0 2
-    ∷ Refused 6 0 1
+    ≡ Err BadSize
+    ∷ Err BadSize
+    ∷ Err TooShort
+    ∷ Err TooShort
+    ∷ Err TooFar
+    ∷ Err TooFar
+    ∷ Err BadKernel
+    ∷ Err Outside
+    ∷ Err (BadSample (record { row = 0; column = 2 }))
+    ∷ Err (BadSample (record { row = 0; column = 1 }))
     ∷ []
 unfolding judged judged_by too_short bad_side short bad_kernel beyond_of first_bad first_from
 refused_past_the_ends = refl
@@ -92,43 +95,50 @@ first_of_two :
     ∷ call 3 3 (pos 0) 3 three 18
     ∷ call 3 2 (pos 0) 3 three 18
     ∷ [])
-    ≡ Refused 1 0 0 ∷ Refused 2 0 0 ∷ Refused 4 0 0 ∷ Refused 5 0 0 ∷ Refused 7 0 0 ∷ []
+    ≡ Err BadSize ∷ Err TooShort ∷ Err TooFar ∷ Err BadKernel ∷ Err Outside ∷ []
 unfolding judged judged_by too_short bad_side short bad_kernel beyond_of first_bad first_from
 first_of_two = refl
 
 -- refused, every figure is 0
-refused_parts : explanation_of 2 0 (pos 0) 2 three 12 ≡ record { verdict = Refused 7 0 0; parts = no_parts }
-unfolding explanation_of judged judged_by too_short bad_side short bad_kernel beyond_of
-refused_parts = refl
+refused_parts :
+    (explanation_of 2 0 (pos 0) 2 three 12 ≡ Err Outside)
+    × (parts_of_answer (explanation_of 2 0 (pos 0) 2 three 12) ≡ record { terms = replicate 4 no_term; sum = pos 0; divisor = pos 0; quotient = pos 0 })
+unfolding explanation_of judged judged_by too_short bad_side short bad_kernel beyond_of no_parts tab
+refused_parts = (refl, refl)
 
 -- ---- the numbers in their order: 1, 2, 4, 5, 7 and 6
 pub in_order : (n kernel : ℕ) (d : ℤ) (k : ℕ) (s : List ℤ) (work : ℕ)
     → judged n kernel d k s work
-    ≡ refused_if (bad_side n) 1
-    (refused_if (short (length s) n || short work (6 * n)) 2
-    (refused_if (beyond_of farthest d) 4
-    (refused_if (bad_kernel kernel) 5
-    (refused_if (leb n k) 7
-    (of_found 6 (first_bad range n 1 s))))))
+    ≡ refused_if (bad_side n) BadSize
+    (refused_if (short (length s) n || short work (6 * n)) TooShort
+    (refused_if (beyond_of farthest d) TooFar
+    (refused_if (bad_kernel kernel) BadKernel
+    (refused_if (leb n k) Outside
+    (of_found BadSample (first_bad range n 1 s))))))
 unfolding judged judged_by too_short
-in_order n kernel d k s work = refl
+in_order n kernel d k s work = rw (and_then-refused_if (leb n k) Outside accepted (of_found BadSample (first_bad range n 1 s))) refl
 
 -- ---- what an accepted call has passed
-pub accepted : (n kernel : ℕ) (d : ℤ) (k : ℕ) (s : List ℤ) (work : ℕ) → judged n kernel d k s work ≡ Accepted → Explainable n kernel d k s work
+pub explainable : (n kernel : ℕ) (d : ℤ) (k : ℕ) (s : List ℤ) (work : ℕ) → judged n kernel d k s work ≡ accepted → Explainable n d k s work
 unfolding judged
-accepted n kernel d k s work e = let (place, p) = passed n kernel d 7 (leb n k) s (length s) work e in record { passed = p; inside = leb-false n k place }
+explainable n kernel d k s work e =
+    let (place, known, p) = passed n kernel d (refused_if (leb n k) Outside accepted) s (length s) work e in
+    record { passed = p; inside = leb-false n k (refused_if-accepted (leb n k) Outside accepted _ place).0 }
+
+pub known : (n kernel : ℕ) (d : ℤ) (k : ℕ) (s : List ℤ) (work : ℕ) → judged n kernel d k s work ≡ accepted → kernel ≤ 2
+unfolding judged
+known n kernel d k s work e = (passed n kernel d (refused_if (leb n k) Outside accepted) s (length s) work e).1
 
 -- number 0 says that the call is accepted
-pub zero-accepted : (n kernel : ℕ) (d : ℤ) (k : ℕ) (s : List ℤ) (work : ℕ) → AcceptedByZero (judged n kernel d k s work)
-unfolding judged
-zero-accepted n kernel d k s work = by_zero n kernel d 7 (leb n k) s (length s) work (λ e. omega arith)
+pub zero-accepted : (n kernel : ℕ) (d : ℤ) (k : ℕ) (s : List ℤ) (work : ℕ) → number_of (judged n kernel d k s work) ≡ 0 → judged n kernel d k s work ≡ accepted
+zero-accepted n kernel d k s work = accepted_by_zero _
 
 -- the part of the work that is lent suffices
-pub room_lent : {n kernel : ℕ} {d : ℤ} {k : ℕ} {s : List ℤ} {work : ℕ} → Explainable n kernel d k s work → Explainable n kernel d k s (6 * n)
+pub room_lent : {n : ℕ} {d : ℤ} {k : ℕ} {s : List ℤ} {work : ℕ} → Explainable n d k s work → Explainable n d k s (6 * n)
 room_lent m =
     let p = m.passed in
     record {
-      passed = record { some = p.some; few = p.few; held_room = p.held_room; work_room = omega arith; near = p.near; known = p.known; samples = p.samples };
+      passed = record { some = p.some; few = p.few; held_room = p.held_room; work_room = omega arith; near = p.near; samples = p.samples };
       inside = m.inside;
     }
 
@@ -141,27 +151,27 @@ moved_at n kernel d k s h l =
     (quotient_moved (kernel_of kernel) d k (take n s) (omega (arith, m)))
 
 -- ---- the answer, refused and accepted
-module _ (n kernel : ℕ) (d : ℤ) (k : ℕ) (s work : List ℤ) (v : Verdict) (p : Parts) (e : v ≡ judged n kernel d k s (length work)) where
-  pub refused-answer : (number row column : ℕ) → v ≡ Refused number row column → p ≡ no_parts → Explained n kernel d k s work work (record { verdict = v; parts = p })
+module _ (n kernel : ℕ) (d : ℤ) (k : ℕ) (s work : List ℤ) where
+  pub refused-answer : (refusal : Refusal) → judged n kernel d k s (length work) ≡ Err refusal → Explained n kernel d k s work work (Err refusal)
   unfolding explanation_of
-  refused-answer number row column t q =
+  refused-answer refusal e =
       record {
-        answer = rw (← e, t, q) refl;
-        work = rw (← e, t) refl;
-        shown = λ a. let z : ◌≡◌ {A = ℕ} 0 1 = cc in absurd (omega arith);
-        mixed_sum = λ a. let z : ◌≡◌ {A = ℕ} 0 1 = cc in absurd (omega arith);
-        moved = λ a. let z : ◌≡◌ {A = ℕ} 0 1 = cc in absurd (omega arith);
+        answer = rw e refl;
+        work = rw e refl;
+        shown = λ zero. absurd (some_number refusal zero);
+        mixed_sum = λ zero. absurd (some_number refusal zero);
+        moved = λ zero. absurd (some_number refusal zero);
       }
 
-  pub accepted-answer : (work' : List ℤ) → v ≡ Accepted → p ≡ parts_of (kernel_of kernel) n d k (source_of n kernel s)
-      → work' ≡ replicate (6 * n) (pos 0) ++ drop (6 * n) work → Explained n kernel d k s work work' (record { verdict = v; parts = p })
+  pub accepted-answer : (work' : List ℤ) (p : Parts) → judged n kernel d k s (length work) ≡ accepted → p ≡ parts_of (kernel_of kernel) n d k (source_of n kernel s)
+      → work' ≡ replicate (6 * n) (pos 0) ++ drop (6 * n) work → Explained n kernel d k s work work' (Ok p)
   unfolding explanation_of
-  accepted-answer work' t q w =
-      let x = accepted n kernel d k s (length work) (sym e ∙ t) in
+  accepted-answer work' p e q w =
+      let x = explainable n kernel d k s (length work) e in
       record {
-        answer = rw (← e, t, q) refl;
-        work = rw (← e, t) w;
-        shown = λ a. subst (Shown n kernel s) (sym q) (parts_shown n kernel d k s x.passed.some);
-        mixed_sum = λ a. ap (λ (r : Parts). r.sum) q ∙ sum-mixed (kernel_of kernel) n d k (source_of n kernel s) x.passed.some;
-        moved = λ a. ap (λ (r : Parts). r.quotient) q ∙ moved_at n kernel d k s x.passed.held_room x.inside;
+        answer = rw (e, q) refl;
+        work = rw e w;
+        shown = λ zero. subst (Shown n kernel s) (sym q) (parts_shown n kernel d k s x.passed.some);
+        mixed_sum = λ zero. ap (λ (r : Parts). r.sum) q ∙ sum-mixed (kernel_of kernel) n d k (source_of n kernel s) x.passed.some;
+        moved = λ zero. ap (λ (r : Parts). r.quotient) q ∙ moved_at n kernel d k s x.passed.held_room x.inside;
       }

@@ -14,7 +14,9 @@ use Rattle.lists.specs.Tab.{tab}
 use Rattle.lists.specs.Line.{Line, wrap, line}
 use Rattle.lists.proofs.Tab.{tab_at}
 use Rattle.settings.specs.declared.Border.TheVariants.{Wrapped}
-use Rattle.kernels.specs.Kernel.{Kernel, Linear, Keys, Spline, kernel_of, weight, weigh, norm, D³}
+use Rattle.kernels.specs.declared.Kernel.{Kernel}
+use Rattle.kernels.specs.declared.Kernel.TheVariants.{Linear, Keys, Spline}
+use Rattle.kernels.specs.Kernel.{kernel_of, weight, weigh, norm, D³}
 use Rattle.kernels.proofs.Weights.{weights_sum}
 use Rattle.spline.specs.Coefficients.{filter, run, u, down, back, v, scaled, coefficient}
 use Rattle.moves.specs.Move.{mixed, source, divisor, moved}

@@ -6,7 +6,8 @@ use Rattle.arith.specs.Move.{fraction, whole}
 use Rattle.lists.specs.Tab.{tab}
 use Rattle.lists.specs.Line.{Line}
 use Rattle.refusals.specs.Tests.{AllWithin}
-use Rattle.kernels.specs.Kernel.{Kernel, weight, weigh}
+use Rattle.kernels.specs.declared.Kernel.{Kernel}
+use Rattle.kernels.specs.Kernel.{weight, weigh}
 use Rattle.kernels.specs.Four.{largest}
 use Rattle.moves.specs.Move.{divisor}
 use Rattle.explanations.specs.declared.Term.{Term}

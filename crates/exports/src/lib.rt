@@ -20,7 +20,7 @@ ghost use Rattle.readings.specs.Sample.{grey_of};
 ghost use Rattle.readings.specs.Answers.{Out, FloatsOut, ReadingAt, SummaryOf};
 ghost use Rattle.quarters.specs.Answer.{PictureMoved, joined_answer, inverse_answer};
 ghost use Rattle.format.specs.Answered.{LineAnswered};
-ghost use Rattle.flat.specs.Exported.{Exported, border_of, setting_of, laid_as, of_change, of_verdict, of_outcome, of_block, of_line, of_sine, of_levelled, of_reading, of_summary, of_written, ticket_of, of_asked, of_forecast, of_explanation, of_checked, of_moved, of_named};
+ghost use Rattle.flat.specs.Exported.{Exported, border_of, setting_of, laid_as, of_change, of_verdict, of_outcome, of_block, of_line, of_step, of_reading, of_summary, of_written, ticket_of, of_asked, of_forecast, of_explanation, of_checked, of_moved, of_named};
 
 use flat::{
     Answer, BlockAnswer, CheckedStep, ExplanationAnswer, FlatAsked, FlatChange, FlatSetting,
@@ -39,14 +39,7 @@ pub fn straightener_straighten(
 ) -> Answer
     ensures { Exported of_outcome (λ o. PictureStraightened width height (setting_of setting) picture.now res.old work.old o res.new work.new) result }
 {
-    flat::of_outcome(pictures::straighten(
-        width,
-        height,
-        flat::setting_of(setting),
-        picture,
-        res,
-        work,
-    ))
+    Answer::from(pictures::straighten(width, height, flat::setting_of(setting), picture, res, work))
 }
 
 // Asks what straightening a picture will do, and writes nothing.
@@ -77,7 +70,7 @@ pub fn straightener_commit(
 ) -> Answer
     ensures { Exported of_outcome (λ o. Committed (ticket_of ticket) width height picture.now res.old work.old o res.new work.new) result }
 {
-    flat::of_outcome(tickets::commit(flat::ticket_of(ticket), width, height, picture, res, work))
+    Answer::from(tickets::commit(flat::ticket_of(ticket), width, height, picture, res, work))
 }
 
 // Tells what a straightening takes and can leave, before there is a picture.
@@ -89,7 +82,7 @@ pub fn straightener_forecast(
 ) -> ForecastAnswer
     ensures { result ≡ of_forecast (forecast_of width height (setting_of setting) largest) }
 {
-    flat::of_forecast(forecasts::forecast(width, height, flat::setting_of(setting), largest))
+    ForecastAnswer::from(forecasts::forecast(width, height, flat::setting_of(setting), largest))
 }
 
 // Straightens a block of pictures in one plane.
@@ -105,7 +98,7 @@ pub fn straightener_straighten_block(
 ) -> BlockAnswer
     ensures { Exported of_block (λ o. BlockStraightened width height depth plane (setting_of setting) block.now res.old work.old o res.new work.new) result }
 {
-    flat::of_block(blocks::straighten(
+    BlockAnswer::from(blocks::straighten(
         width,
         height,
         depth,
@@ -142,7 +135,7 @@ pub fn straightener_move_line(
 ) -> Answer
     ensures { Exported of_line (LineMoved n kernel d (border_of border background) line.now res.old work.old res.new work.new) result }
 {
-    flat::of_line(lines::move_line(
+    Answer::from(lines::move_line(
         n,
         kernel,
         d,
@@ -178,7 +171,7 @@ pub fn straightener_explain(
 ) -> ExplanationAnswer
     ensures { Exported of_explanation (Explained n kernel d k line.now work.old work.new) result }
 {
-    flat::of_explanation(explanations::explain(n, kernel, d, k, line, work))
+    ExplanationAnswer::from(explanations::explain(n, kernel, d, k, line, work))
 }
 
 // The setting with another kernel.
@@ -211,13 +204,9 @@ pub fn straightener_with_border(setting: FlatSetting, border: u32, background: i
     ensures border_value { (result.border ≡ border) × (result.background ≡ background) }
 {
     FlatSetting {
-        kernel: setting.kernel,
-        cx: setting.cx,
-        cy: setting.cy,
-        a: setting.a,
-        b: setting.b,
         border,
         background,
+        ..setting
     }
 }
 
@@ -230,16 +219,16 @@ pub fn straightener_with_step(setting: FlatSetting, t: i32) -> FlatChange
 
 // S(t).
 pub fn straightener_sine(t: i32) -> Step
-    ensures { Exported of_sine (SineAnswer t) result }
+    ensures { Exported of_step (SineAnswer t) result }
 {
-    flat::of_sine(steps::sine(t))
+    Step::from(steps::sine(t))
 }
 
 // The step that levels the line through two points.
 pub fn straightener_level(x1: i32, y1: i32, x2: i32, y2: i32) -> Step
-    ensures { Exported of_levelled (LevelAnswer largest_side largest_side x1 y1 x2 y2) result }
+    ensures { Exported of_step (LevelAnswer largest_side largest_side x1 y1 x2 y2) result }
 {
-    flat::of_levelled(levelling::level(x1, y1, x2, y2))
+    Step::from(levelling::level(x1, y1, x2, y2))
 }
 
 // The same, where no sample on that line is below a threshold.
@@ -255,7 +244,7 @@ pub fn straightener_level_checked(
 ) -> CheckedStep
     ensures { Exported of_checked (LevelChecked width height x1 y1 x2 y2 threshold picture.now) result }
 {
-    flat::of_checked(graticule::level_checked(width, height, x1, y1, x2, y2, threshold, picture))
+    CheckedStep::from(graticule::level_checked(width, height, x1, y1, x2, y2, threshold, picture))
 }
 
 // Turns and mirrors a picture by one of the eight moves.
@@ -268,21 +257,21 @@ pub fn straightener_quarter_move(
 ) -> QuarterAnswer
     ensures { Exported of_moved (PictureMoved width height quarter picture.now res.old res.new) result }
 {
-    flat::of_moved(quarters::move_picture(width, height, quarter, picture, res))
+    QuarterAnswer::from(quarters::move_picture(width, height, quarter, picture, res))
 }
 
 // The one move that two moves in a row are.
 pub fn straightener_joined_moves(first: u32, second: u32) -> Quarter
     ensures { result ≡ of_named (joined_answer first second) }
 {
-    flat::of_named(quarters::joined(first, second))
+    Quarter::from(quarters::joined(first, second))
 }
 
 // The move that undoes one.
 pub fn straightener_inverse_move(quarter: u32) -> Quarter
     ensures { result ≡ of_named (inverse_answer quarter) }
 {
-    flat::of_named(quarters::inverse(quarter))
+    Quarter::from(quarters::inverse(quarter))
 }
 
 // Greys out.
@@ -294,7 +283,7 @@ pub fn straightener_greys_out(
 ) -> Answer
     ensures { Exported of_verdict (Out grey_of width height picture.now greys.old greys.new) result }
 {
-    flat::of_verdict(readings::greys_out(width, height, picture, greys))
+    Answer::from(readings::greys_out(width, height, picture, greys))
 }
 
 // Floats out.
@@ -306,7 +295,7 @@ pub fn straightener_floats_out(
 ) -> Answer
     ensures { Exported of_verdict (FloatsOut width height picture.now floats.old floats.new) result }
 {
-    flat::of_verdict(readings::floats_out(width, height, picture, floats))
+    Answer::from(readings::floats_out(width, height, picture, floats))
 }
 
 // The reading at a point.
@@ -319,19 +308,19 @@ pub fn straightener_reading(
 ) -> ReadingAnswer
     ensures { Exported of_reading (ReadingAt width height column row picture.now) result }
 {
-    flat::of_reading(readings::reading_at(width, height, column, row, picture))
+    ReadingAnswer::from(readings::reading_at(width, height, column, row, picture))
 }
 
 // The darkest and the lightest grey.
 pub fn straightener_summary(width: usize, height: usize, picture: &[i32]) -> SummaryAnswer
     ensures { Exported of_summary (SummaryOf width height picture.now) result }
 {
-    flat::of_summary(readings::summary_of(width, height, picture))
+    SummaryAnswer::from(readings::summary_of(width, height, picture))
 }
 
 // The answer to one line of the line program, which comes without its line feed.
 pub fn straightener_answer_line(line: &[u8], answer: &mut [u8]) -> LineAnswer
     ensures { Exported of_written (LineAnswered line.now answer.old answer.new) result }
 {
-    flat::of_written(hexlines::answer(line, answer))
+    LineAnswer::from(hexlines::answer(line, answer))
 }

@@ -19,7 +19,7 @@ ghost use Rattle.readings.specs.Sample.{grey_of};
 ghost use Rattle.readings.specs.Answers.{Out, FloatsOut, ReadingAt, SummaryOf};
 ghost use Rattle.quarters.specs.Answer.{PictureMoved, joined_answer, inverse_answer};
 ghost use Rattle.format.specs.Answered.{LineAnswered};
-ghost use Rattle.flat.specs.Exported.{Exported, border_of, setting_of, laid_as, of_change, of_verdict, of_outcome, of_block, of_line, of_sine, of_levelled, of_reading, of_summary, of_written, ticket_of, of_asked, of_forecast, of_explanation, of_checked, of_moved, of_named};
+ghost use Rattle.flat.specs.Exported.{Exported, border_of, setting_of, laid_as, of_change, of_verdict, of_outcome, of_block, of_line, of_step, of_reading, of_summary, of_written, ticket_of, of_asked, of_forecast, of_explanation, of_checked, of_moved, of_named};
 
 use flat::{
     Answer, BlockAnswer, CheckedStep, ExplanationAnswer, FlatAsked, FlatChange, FlatSetting,
@@ -215,7 +215,7 @@ pub extern "C" fn straightener_with_step(setting: FlatSetting, t: i32) -> FlatCh
 // S(t).
 #[unsafe(no_mangle)]
 pub extern "C" fn straightener_sine(t: i32) -> Step
-    ensures { Exported of_sine (SineAnswer t) result }
+    ensures { Exported of_step (SineAnswer t) result }
 {
     exports::straightener_sine(t)
 }
@@ -223,7 +223,7 @@ pub extern "C" fn straightener_sine(t: i32) -> Step
 // The step that levels the line through two points.
 #[unsafe(no_mangle)]
 pub extern "C" fn straightener_level(x1: i32, y1: i32, x2: i32, y2: i32) -> Step
-    ensures { Exported of_levelled (LevelAnswer largest_side largest_side x1 y1 x2 y2) result }
+    ensures { Exported of_step (LevelAnswer largest_side largest_side x1 y1 x2 y2) result }
 {
     exports::straightener_level(x1, y1, x2, y2)
 }

@@ -3,10 +3,7 @@ use Prim.Native.Nat.{ℕ, suc, ◌*◌, ◌/◌, ◌^◌, ◌<◌}
 use mathlib.Core.Bool.{cond}
 use mathlib.Core.List.{List, [], ◌∷◌}
 use mathlib.Core.Path.{◌≡◌, refl, ap, ◌∙◌}
-use native.Mathlib.Omega.{arith}
-use mir.Syntax.{w64}
-use mir.Val.{Fits}
-use lib.Count.{count_trailing_zeros, trailing_le}
+use lib.Count.{count_trailing_zeros}
 use lib.Dec.{T}
 use lib.ListN.{length}
 use Rattle.words.specs.Word.{bytes_of}
@@ -22,7 +19,3 @@ first_feed (b ∷ bs) = first_mark in_line b bs ∙ ap (λ (n : ℕ). cond (in_l
 pub formula_length : (w x : ℕ) (m : Made w x) → T (marks_bytes in_line m.formula) → w < 2 ^ 64 → count_trailing_zeros 64 x / 8 ≡ line_length (bytes_of 8 w)
 unfolding bytes_of
 formula_length w x m t h = ap (λ (y : ℕ). count_trailing_zeros 64 y / 8) (made_marks in_line m t h) ∙ first_feed (bytes_of 8 w)
-
--- such a count fits a word
-pub zeros_fit : (x : ℕ) → Fits w64 (count_trailing_zeros 64 x / 8)
-zeros_fit x = omega (arith, trailing_le 64 x)

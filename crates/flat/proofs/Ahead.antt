@@ -5,12 +5,11 @@ use mathlib.Core.Bool.{Bool}
 use mathlib.Core.List.{List}
 use borrow.Author.Tests.{le-ltb}
 use lib.IntN.{ℤ}
-use Rattle.refusals.specs.declared.Verdict.TheVariants.{Accepted}
-use Rattle.pictures.specs.Answer.{number_of, AnswerOn}
+use Rattle.refusals.specs.Judging.{number_of}
+use Rattle.pictures.specs.Answer.{AnswerOn}
 use Rattle.tickets.specs.Ticket.{other_size, Committed}
 use Rattle.forecasts.specs.Figures.{forecast_of}
 use Rattle.forecasts.specs.TwoCalls.{Kept}
-use Rattle.forecasts.proofs.Accepted.{zero_ahead}
 use Rattle.forecasts.proofs.TwoCalls.{kept}
 use Rattle.flat.specs.declared.FlatSetting.{FlatSetting}
 use Rattle.flat.specs.declared.FlatTicket.{FlatTicket}
@@ -26,9 +25,8 @@ module _ (other : Bool) (W H M : ℕ) (s : FlatSetting) (picture result work : L
   both : Kept other W H M (forecast_of W H (setting_of s) M) picture result work call.outcome result' work'
   both = kept (record { forecast = refl; straightening = call.promised })
 
-  accepted : f.number ≡ 0 → (forecast_of W H (setting_of s) M).verdict ≡ Accepted
-  unfolding forecast_of
-  accepted zero = zero_ahead W H (setting_of s) M (sym (ap (λ (f : ForecastAnswer). f.number) forecast) ∙ zero)
+  accepted : f.number ≡ 0 → number_of (forecast_of W H (setting_of s) M) ≡ 0
+  accepted zero = sym (ap (λ (f : ForecastAnswer). f.number) forecast) ∙ zero
 
   pub told_ahead : f.number ≡ 0 → ToldAhead other W H M f picture result work r result' work'
   told_ahead zero =
@@ -44,8 +42,7 @@ module _ (other : Bool) (W H M : ℕ) (s : FlatSetting) (picture result work : L
   -- a straightening that answers number 0 has a forecast of number 0, unless M is over 32,767
   pub told_of_every : M ≤ 32767 → r.number ≡ 0 → f.number ≡ 0
   told_of_every few done =
-      let v = both.none_left_out (zero-laid call done) in
-      rw (forecast, v, le-ltb 32767 M few) refl
+      ap (λ (f : ForecastAnswer). f.number) forecast ∙ ap number_of (both.none_left_out (zero-laid call done)) ∙ rw (le-ltb 32767 M few) refl
 
 -- a commit is such a straightening, whatever size and count its ticket tells
 pub told_ahead_of_commit : (W H M : ℕ) (t : FlatTicket) (picture result work : List ℤ) {result' work' : List ℤ} {f : ForecastAnswer} {r : Answer}

@@ -11,23 +11,23 @@ use Rattle.levelling.specs.Level.{outside, any_outside, steep, direction_of, lev
 use Rattle.readings.specs.Sample.{float_of, reading_of}
 use Rattle.readings.specs.Answers.{judged_by, judged, judged_point, reading_answer, summary_answer}
 use Rattle.readings.specs.Answers.{outside as point_outside}
-use Rattle.flat.specs.Exported.{of_verdict, of_sine, of_levelled, of_reading, of_summary}
+use Rattle.flat.specs.Exported.{of_verdict, of_step, of_reading, of_summary}
 
 -- S(1000) is 1,887; step 1,698 is refused with 4
-sine-1000 : of_sine (sine_of (pos 1000)) ≡ record { number = 0; value = pos 1887 }
+sine-1000 : of_step (sine_of (pos 1000)) ≡ record { number = 0; value = pos 1887 }
 unfolding sine_of beyond_of S entry
 sine-1000 = refl
 
-sine-1698 : of_sine (sine_of (pos 1698)) ≡ record { number = 4; value = pos 0 }
+sine-1698 : of_step (sine_of (pos 1698)) ≡ record { number = 4; value = pos 0 }
 unfolding sine_of beyond_of
 sine-1698 = refl
 
 -- a point outside is 7, an upright line 8
-level-outside : of_levelled (level_of 1024 1024 (pos 0) (pos 0) (pos 1024) (pos 0)) ≡ record { number = 7; value = pos 0 }
+level-outside : of_step (level_of 1024 1024 (pos 0) (pos 0) (pos 1024) (pos 0)) ≡ record { number = 7; value = pos 0 }
 unfolding level_of any_outside outside
 level-outside = refl
 
-level_upright : of_levelled (level_of 1024 1024 (pos 5) (pos 0) (pos 5) (pos 0)) ≡ record { number = 8; value = pos 0 }
+level_upright : of_step (level_of 1024 1024 (pos 5) (pos 0) (pos 5) (pos 0)) ≡ record { number = 8; value = pos 0 }
 unfolding level_of direction_of any_outside outside steep
 level_upright = refl
 

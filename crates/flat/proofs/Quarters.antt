@@ -6,8 +6,7 @@ use mathlib.Core.List.{List}
 use lib.IntN.{ℤ}
 use Rattle.pictures.specs.Answer.{Answer as PictureStraightened}
 use Rattle.arrangements.proofs.Table.{inverse}
-use Rattle.quarters.specs.declared.Moved.{Moved}
-use Rattle.quarters.specs.Answer.{PictureMoved, joined_answer, inverse_answer}
+use Rattle.quarters.specs.Answer.{Moved, PictureMoved, joined_answer, inverse_answer}
 use Rattle.quarters.specs.TwoCalls.{InARow}
 use Rattle.quarters.proofs.Accepted.{joined_known, inverse-named}
 use Rattle.quarters.proofs.Calls.{was_fit}

@@ -5,15 +5,13 @@ use mathlib.Core.Path.{◌≡◌, refl, sym, ap, ◌∙◌, subst}
 use mathlib.Core.Bool.{Bool}
 use mathlib.Core.List.{List}
 use lib.IntN.{ℤ, ◌+ℤ◌}
-use lib.ListN.{length}
+use Rattle.refusals.proofs.Judging.{accepted_by_zero}
 use Rattle.settings.specs.declared.Border.{Border}
 use Rattle.settings.specs.declared.Setting.{Setting}
 use Rattle.settings.specs.Setting.{with_border}
 use Rattle.moves.specs.Range.{raised, Raised}
 use Rattle.lines.specs.Answer.{LineMoved}
-use Rattle.lines.proofs.Answer as line
 use Rattle.lines.proofs.Raised.{line-raised}
-use Rattle.acceptance.proofs.Accepted.{zero-accepted}
 use Rattle.pictures.specs.Answer.{AnswerOn}
 use Rattle.pictures.proofs.Raised.{picture-raised}
 use Rattle.tickets.specs.Ticket.{other_size, Committed}
@@ -42,7 +40,7 @@ module _ (other : Bool) (W H : ℕ) (s : FlatSetting) (picture result work : Lis
   pub picture-range-told : s.kernel ≡ 0 → ToldInRange (setting_of s).border (W * H) picture result' r
   picture-range-told linear =
       let p = call.promised in
-      let v = zero-accepted other W H (setting_of s) picture (length result) (length work) (sym p.number ∙ zero-laid call accepted) in
+      let v = accepted_by_zero _ (sym p.number ∙ zero-laid call accepted) in
       let told = p.told_in_range v linear in
       record { each = p.no_overshoot v linear; smallest = rw call.answer told.0; largest = rw call.answer told.1 }
 
@@ -81,7 +79,7 @@ module _ (n kernel : ℕ) (d : ℤ) (border : ℕ) (background : ℤ) (samples r
   pub line-range-told : kernel ≡ 0 → ToldInRange (border_of border background) n samples result' r
   line-range-told linear =
       let p = call.promised in
-      let v = line.zero-accepted n kernel d (border_of border background) samples (length result) (length work) (sym p.number ∙ zero-laid call accepted) in
+      let v = accepted_by_zero _ (sym p.number ∙ zero-laid call accepted) in
       let told = p.told_in_range v linear in
       record { each = p.no_overshoot v linear; smallest = rw call.answer told.0; largest = rw call.answer told.1 }
 

@@ -5,31 +5,27 @@ use mathlib.Core.List.{List}
 use Prim.Native.Nat.{ℕ}
 use lib.Dec.{leb}
 use lib.IntN.{ℤ}
-use lib.ListN.{length}
-use Rattle.refusals.specs.declared.Verdict.TheVariants.{Accepted}
-use Rattle.lines.specs.Answer.{number_of, LineMoved}
-use Rattle.explanations.specs.declared.Explanation.{Explanation}
-use Rattle.explanations.specs.Answer.{explanation_of, Explained}
+use Rattle.std.specs.Prelude.{Ok}
+use Rattle.refusals.specs.declared.Refusal.TheVariants.{Outside}
+use Rattle.refusals.specs.Judging.{refused_if, number_of}
+use Rattle.lines.specs.Answer.{LineMoved}
+use Rattle.explanations.specs.declared.Parts.{Parts}
+use Rattle.explanations.specs.Answer.{Explained}
 use Rattle.explanations.specs.TwoCalls.{Agreed}
-use Rattle.explanations.proofs.Call.{zero-accepted}
 use Rattle.explanations.proofs.TwoCalls.{agreed}
-use Rattle.refusals.specs.Judging as verdict
 use Rattle.flat.specs.declared.ExplanationAnswer.{ExplanationAnswer}
 use Rattle.flat.specs.declared.Answer.{Answer}
 use Rattle.flat.specs.Exported.{Exported, border_of, of_line, of_explanation}
 use Rattle.flat.specs.Sample.{ToldSample}
 
-own_number : (t : Bool) → verdict.number_of (verdict.refused_if t 7 Accepted) ≡ cond t 7 0
-own_number true = refl
-own_number false = refl
+own_number : (t : Bool) (p : Parts) → number_of (refused_if t Outside (Ok p)) ≡ cond t 7 0
+own_number true p = refl
+own_number false p = refl
 
 module _ {n kernel : ℕ} {d : ℤ} {k : ℕ} {s room room' : List ℤ} {x : ExplanationAnswer} (explaining : Exported of_explanation (Explained n kernel d k s room room') x)
     (background : ℤ) {result work result' work' : List ℤ} {r : Answer} (moving : Exported of_line (LineMoved n kernel d (border_of 0 background) s result work result' work') r) where
-  accepted : x.number ≡ 0 → explaining.outcome.verdict ≡ Accepted
-  unfolding explanation_of
-  accepted zero =
-      let e = ap (λ (y : Explanation). y.verdict) explaining.promised.answer in
-      e ∙ zero-accepted n kernel d k s (length room) (ap verdict.number_of (sym e) ∙ sym (ap (λ (y : ExplanationAnswer). y.number) explaining.answer) ∙ zero)
+  accepted : x.number ≡ 0 → number_of explaining.outcome ≡ 0
+  accepted zero = sym (ap (λ (y : ExplanationAnswer). y.number) explaining.answer) ∙ zero
 
   both : Agreed n k room explaining.outcome result' moving.outcome
   both = agreed (record { explaining = explaining.promised; moving = moving.promised })
@@ -42,5 +38,6 @@ module _ {n kernel : ℕ} {d : ℤ} {k : ℕ} {s room room' : List ℤ} {x : Exp
       record {
         shown = λ zero. rw explaining.answer (explaining.promised.shown (accepted zero));
         sample = λ zero done. ap (λ (y : ExplanationAnswer). y.quotient) explaining.answer ∙ both.sample (accepted zero) (moved-zero done);
-        none_left_out = λ done h. rw (explaining.answer, both.none_left_out (moved-zero done) h) (own_number (leb n k));
+        none_left_out = λ done h.
+            ap (λ (y : ExplanationAnswer). y.number) explaining.answer ∙ ap number_of (both.none_left_out (moved-zero done) h) ∙ own_number (leb n k) _;
       }

@@ -5,7 +5,7 @@ use mathlib.Core.Path.{◌≡◌, refl}
 use mathlib.Core.Bool.{Bool, true, false}
 use lib.IntN.{ℤ}
 use Rattle.settings.specs.Setting.{with_kernel, with_centre, with_shears}
-use Rattle.steps.specs.Step.{beyond, change_of}
+use Rattle.steps.specs.Step.{beyond, change_of, setting_after}
 use Rattle.flat.specs.declared.FlatSetting.{FlatSetting}
 use Rattle.flat.specs.Exported.{setting_of, laid_as, of_change}
 
@@ -19,11 +19,11 @@ module _ (s : FlatSetting) where
   pub shears_mean : (A B : ℤ) → setting_of (laid_as s (with_shears (setting_of s) A B)) ≡ with_shears (setting_of s) A B
   shears_mean A B = refl
 
-  pub step_means : (t : ℤ) → setting_of (of_change s (change_of (setting_of s) t)).setting ≡ (change_of (setting_of s) t).setting
+  pub step_means : (t : ℤ) → setting_of (of_change s (change_of (setting_of s) t)).setting ≡ setting_after (setting_of s) (change_of (setting_of s) t)
   unfolding change_of
   step_means t = by (beyond t) refl
     where
-      by : (b : Bool) → beyond t ≡ b → setting_of (of_change s (change_of (setting_of s) t)).setting ≡ (change_of (setting_of s) t).setting
+      by : (b : Bool) → beyond t ≡ b → setting_of (of_change s (change_of (setting_of s) t)).setting ≡ setting_after (setting_of s) (change_of (setting_of s) t)
       by true e = rw e refl
       by false e = rw e refl
 

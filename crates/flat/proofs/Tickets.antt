@@ -2,21 +2,20 @@
 -- calls. Assumes nothing.
 use Prim.Native.Nat.{ℕ}
 use mathlib.Core.Path.{◌≡◌, sym, ap, ◌∙◌, subst}
-use mathlib.Core.Bool.{false, cond}
+use mathlib.Core.Bool.{cond}
 use mathlib.Core.List.{List}
 use lib.IntN.{ℤ}
 use lib.ListN.{length}
+use Rattle.std.specs.Prelude.{Result}
 use Rattle.refusals.specs.Tests.{bad_size}
-use Rattle.refusals.specs.Judging as verdict
+use Rattle.refusals.specs.declared.Refusal.{Refusal}
 use Rattle.settings.specs.declared.Setting.{Setting}
 use Rattle.acceptance.specs.Judge.{too_short}
-use Rattle.acceptance.proofs.Accepted.{zero-accepted}
-use Rattle.pictures.specs.declared.Outcome.{Outcome}
 use Rattle.pictures.specs.Answer as straightened
+use Rattle.pictures.specs.Answer.{Outcome}
 use Rattle.pictures.proofs.Call.{answered_once}
 use Rattle.tickets.specs.declared.Ticket.{Ticket}
-use Rattle.tickets.specs.declared.Asked.{Asked}
-use Rattle.tickets.specs.Ticket.{Asking, Committed}
+use Rattle.tickets.specs.Ticket.{ticket_in, Asking, Committed}
 use Rattle.tickets.specs.TwoCalls.{Kept}
 use Rattle.tickets.proofs.TwoCalls.{kept, refused_ticket}
 use Rattle.flat.specs.declared.FlatSetting.{FlatSetting}
@@ -25,15 +24,18 @@ use Rattle.flat.specs.declared.Answer.{Answer}
 use Rattle.flat.specs.Exported.{Exported, setting_of, ticket_of, of_asked, of_outcome}
 
 -- a flat ticket stands for the ticket that was laid out, where its setting is the one that was asked
-pub ticket_means : (s : FlatSetting) (a : Asked) → a.ticket.setting ≡ setting_of s → ticket_of (of_asked s a).ticket ≡ a.ticket
-ticket_means s a e = ap (λ (u : Setting). record { width = a.ticket.width; height = a.ticket.height; setting = u; count = a.ticket.count }) (sym e)
+pub ticket_means : (s : FlatSetting) (a : Result Ticket Refusal) → (ticket_in (setting_of s) a).setting ≡ setting_of s
+    → ticket_of (of_asked s a).ticket ≡ ticket_in (setting_of s) a
+ticket_means s a e =
+    let t = ticket_in (setting_of s) a in
+    ap (λ (u : Setting). record { width = t.width; height = t.height; setting = u; count = t.count }) (sym e)
 
 abbrev number : FlatAsked → ℕ
 number f = f.number
 
 -- so does the one that an asking hands back
 told_ticket : (s : FlatSetting) {W H : ℕ} {picture result work : List ℤ} {f : FlatAsked} (asked : Exported (of_asked s) (Asking W H (setting_of s) picture result work) f)
-    → ticket_of f.ticket ≡ asked.outcome.ticket
+    → ticket_of f.ticket ≡ ticket_in (setting_of s) asked.outcome
 told_ticket s asked = ap (λ (f : FlatAsked). ticket_of f.ticket) asked.answer ∙ ticket_means s asked.outcome asked.promised.setting
 
 -- an asking that answers 0, and then a commit on its ticket
@@ -41,14 +43,11 @@ pub asked_then_committed : (s : FlatSetting) {W H : ℕ} {asked-picture asked-re
     (asked : Exported (of_asked s) (Asking W H (setting_of s) asked-picture asked-result asked-work) f) → f.number ≡ 0
     → (picture result work : List ℤ) (o : Outcome) (result' work' : List ℤ) → Committed (ticket_of f.ticket) W H picture result work o result' work'
     → Kept W H (setting_of s) asked-picture asked-result asked-work asked.outcome picture result work o result' work'
-asked_then_committed s {W} {H} {asked-picture} {asked-result} {asked-work} {f} asked zero picture result work o result' work' commit =
-    let a = asked.outcome in
-    let p = asked.promised in
-    let told : verdict.number_of a.verdict ≡ 0 = sym (ap number asked.answer) ∙ zero in
+asked_then_committed s {W} {H} {f = f} asked zero picture result work o result' work' commit =
     kept
     (record {
-      asking = p;
-      accepted = p.verdict ∙ zero-accepted false W H (setting_of s) asked-picture (length asked-result) (length asked-work) (sym (ap verdict.number_of p.verdict) ∙ told);
+      asking = asked.promised;
+      accepted = sym (ap number asked.answer) ∙ zero;
       commit = subst (λ (t : Ticket). Committed t W H picture result work o result' work') (told_ticket s asked) commit;
     })
 
@@ -71,6 +70,6 @@ pub refused_then_committed : (s : FlatSetting) {W H : ℕ} {asked-picture asked-
     → Exported of_outcome (λ o. Committed (ticket_of f.ticket) W₂ H₂ picture result work o result' work') r
     → (r.number ≡ cond (bad_size W₂ H₂) 1 (cond (too_short W₂ H₂ (length picture) (length result) (length work)) 2 14)) × (result' ≡ result) × (work' ≡ work)
 refused_then_committed s {f = f} asked refused W₂ H₂ picture result work {result'} {work'} commit =
-    let told = refused_ticket asked.promised (λ e. refused (ap number asked.answer ∙ ap verdict.number_of e)) W₂ H₂ picture result work
+    let told = refused_ticket asked.promised (λ e. refused (ap number asked.answer ∙ e)) W₂ H₂ picture result work
     commit.outcome result' work' (subst (λ (t : Ticket). Committed t W₂ H₂ picture result work commit.outcome result' work') (told_ticket s asked) commit.promised) in
     (ap (λ (r : Answer). r.number) commit.answer ∙ told.0, told.1, told.2)

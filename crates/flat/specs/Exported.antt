@@ -1,35 +1,31 @@
 -- The structs that C and Rust receive: what the call beneath answers, laid out by the definitions that give document 01's figures for each
 -- case. Assumes nothing.
-use Rattle.std.specs.Prelude.{ℕ, zero, suc, ◌≡◌, ℤ, pos, Float}
-use Rattle.refusals.specs.declared.Verdict.{Verdict}
-use Rattle.refusals.specs.Judging as verdict
-use Rattle.pictures.specs.declared.Outcome.{Outcome}
+use Rattle.std.specs.Prelude.{ℕ, zero, suc, ◌≡◌, Result, Ok, Err, ℤ, pos, Float}
+use Rattle.refusals.specs.declared.Refusal.{Refusal}
+use Rattle.refusals.specs.Judging.{Verdict, number_of, row_of, column_of}
+use Rattle.pictures.specs.declared.Straightened.{Straightened}
 use Rattle.pictures.specs.Answer as straightened
-use Rattle.blocks.specs.declared.Outcome as block
+use Rattle.blocks.specs.declared.BlockRefusal.{BlockRefusal}
 use Rattle.blocks.specs.Answer as blocks
-use Rattle.lines.specs.declared.LineOutcome.{LineOutcome}
+use Rattle.lines.specs.declared.Moved.{Moved}
 use Rattle.lines.specs.Answer as moved
-use Rattle.explanations.specs.declared.Explanation.{Explanation}
-use Rattle.steps.specs.declared.StepSine.{StepSine}
-use Rattle.levelling.specs.declared.Levelled.{Levelled}
-use Rattle.steps.specs.Step.{sine_number, sine_value}
-use Rattle.levelling.specs.Level.{level_number, level_step}
+use Rattle.explanations.specs.declared.Parts.{Parts}
+use Rattle.explanations.specs.Answer.{parts_of_answer}
+use Rattle.steps.specs.Step.{setting_after}
 use Rattle.readings.specs.declared.Reading.{Reading}
 use Rattle.readings.specs.declared.Reading.TheVariants.{Level, Under, Over}
-use Rattle.readings.specs.declared.ReadingAnswer as reading
-use Rattle.readings.specs.declared.SummaryAnswer as summary
+use Rattle.readings.specs.declared.Summary.{Summary}
+use Rattle.readings.specs.Answers.{reading_of_answer, summary_of_answer}
 use Rattle.settings.specs.declared.Border.{Border}
 use Rattle.settings.specs.declared.Border.TheVariants.{Wrapped, Background}
 use Rattle.settings.specs.declared.Setting.{Setting}
-use Rattle.steps.specs.declared.Change.{Change}
-use Rattle.format.specs.declared.Written.{Written}
-use Rattle.format.specs.Answered.{written_number, written_bytes}
+use Rattle.format.specs.Answered.{written_bytes}
 use Rattle.tickets.specs.declared.Ticket.{Ticket}
-use Rattle.tickets.specs.declared.Asked.{Asked}
-use Rattle.forecasts.specs.declared.Foretold.{Foretold}
-use Rattle.graticule.specs.declared.Checked.{Checked}
-use Rattle.quarters.specs.declared.Moved.{Moved}
-use Rattle.quarters.specs.declared.Named.{Named}
+use Rattle.tickets.specs.Ticket.{ticket_in}
+use Rattle.forecasts.specs.declared.Figures.{Figures}
+use Rattle.forecasts.specs.Figures.{figures_in}
+use Rattle.quarters.specs.declared.Size.{Size}
+use Rattle.quarters.specs.Answer.{width_of, height_of, quarter_of}
 use Rattle.flat.specs.declared.FlatSetting.{FlatSetting}
 use Rattle.flat.specs.declared.FlatChange.{FlatChange}
 use Rattle.flat.specs.declared.FlatTicket.{FlatTicket}
@@ -58,67 +54,68 @@ setting_of s = record { kernel = s.kernel; cx = s.cx; cy = s.cy; a = s.a; b = s.
 abbrev pub laid_as : FlatSetting → Setting → FlatSetting
 laid_as s c = record { kernel = c.kernel; cx = c.cx; cy = c.cy; a = c.a; b = c.b; border = s.border; background = s.background }
 
-abbrev pub of_change : FlatSetting → Change → FlatChange
-of_change s c = record { number = c.number; setting = laid_as s c.setting }
+-- the changed setting, or the setting as it was where the change is refused
+abbrev pub of_change : FlatSetting → Result Setting Refusal → FlatChange
+of_change s c = record { number = number_of c; setting = laid_as s (setting_after (setting_of s) c) }
 
 abbrev pub ticket_of : FlatTicket → Ticket
 ticket_of t = record { width = t.width; height = t.height; setting = setting_of t.setting; count = t.count }
 
 -- what asking answers: the ticket has the flat setting as it was asked
-abbrev pub of_asked : FlatSetting → Asked → FlatAsked
+abbrev pub of_asked : FlatSetting → Result Ticket Refusal → FlatAsked
 of_asked s a =
-    let v = a.verdict in
+    let t = ticket_in (setting_of s) a in
     record {
-      number = verdict.number_of v;
-      row = verdict.row_of v;
-      column = verdict.column_of v;
-      ticket = record { width = a.ticket.width; height = a.ticket.height; setting = s; count = a.ticket.count };
+      number = number_of a;
+      row = row_of a;
+      column = column_of a;
+      ticket = record { width = t.width; height = t.height; setting = s; count = t.count };
     }
 
 -- what a forecast answers
-abbrev pub of_forecast : Foretold → ForecastAnswer
+abbrev pub of_forecast : Result Figures Refusal → ForecastAnswer
 of_forecast f =
-    let v = f.verdict in
+    let told = figures_in f in
     record {
-      number = verdict.number_of v;
-      row = verdict.row_of v;
-      column = verdict.column_of v;
-      work = f.figures.work;
-      count = f.figures.count;
-      bound = f.figures.bound;
+      number = number_of f;
+      row = row_of f;
+      column = column_of f;
+      work = told.work;
+      count = told.count;
+      bound = told.bound;
     }
 
 -- what an explanation answers
-abbrev pub of_explanation : Explanation → ExplanationAnswer
+abbrev pub of_explanation : Result Parts Refusal → ExplanationAnswer
 of_explanation e =
-    let v = e.verdict in
+    let parts = parts_of_answer e in
     record {
-      number = verdict.number_of v;
-      row = verdict.row_of v;
-      column = verdict.column_of v;
-      terms = e.parts.terms;
-      sum = e.parts.sum;
-      divisor = e.parts.divisor;
-      quotient = e.parts.quotient;
+      number = number_of e;
+      row = row_of e;
+      column = column_of e;
+      terms = parts.terms;
+      sum = parts.sum;
+      divisor = parts.divisor;
+      quotient = parts.quotient;
     }
 
 -- a verdict alone interpolates no line and moves no sample
 abbrev pub of_verdict : Verdict → Answer
-of_verdict v = record { number = verdict.number_of v; row = verdict.row_of v; column = verdict.column_of v; count = 0; smallest = pos 0; largest = pos 0 }
+of_verdict v = record { number = number_of v; row = row_of v; column = column_of v; count = 0; smallest = pos 0; largest = pos 0 }
 
-abbrev pub of_outcome : Outcome → Answer
+abbrev pub of_outcome : Result Straightened Refusal → Answer
 of_outcome o =
     record {
-      number = straightened.number_of o;
-      row = straightened.row_of o;
-      column = straightened.column_of o;
+      number = number_of o;
+      row = row_of o;
+      column = column_of o;
       count = straightened.count_of o;
       smallest = straightened.smallest_of o;
       largest = straightened.largest_of o;
     }
 
 -- what the call on a block answers
-abbrev pub of_block : block.Outcome → BlockAnswer
+abbrev pub of_block : Result Straightened BlockRefusal → BlockAnswer
 of_block o =
     record {
       number = blocks.number_of o;
@@ -130,35 +127,36 @@ of_block o =
       largest = blocks.largest_of o;
     }
 
-abbrev pub of_line : LineOutcome → Answer
-of_line o =
+abbrev pub of_line : Result Moved Refusal → Answer
+of_line m =
     record {
-      number = moved.number_of o;
-      row = moved.row_of o;
-      column = moved.column_of o;
-      count = moved.count_of o;
-      smallest = moved.smallest_of o;
-      largest = moved.largest_of o;
+      number = number_of m;
+      row = row_of m;
+      column = column_of m;
+      count = moved.count_of m;
+      smallest = moved.smallest_of m;
+      largest = moved.largest_of m;
     }
 
-abbrev pub of_sine : StepSine → Step
-of_sine s = record { number = sine_number s; value = sine_value s }
+-- S of a step or the step of a level line, 0 where refused
+abbrev pub value_of : Result ℤ Refusal → ℤ
+value_of (Ok value) = value
+value_of (Err refusal) = pos 0
 
-abbrev pub of_levelled : Levelled → Step
-of_levelled l = record { number = level_number l; value = level_step l }
+abbrev pub of_step : Result ℤ Refusal → Step
+of_step r = record { number = number_of r; value = value_of r }
 
 -- what levelling with a picture answers
-abbrev pub of_checked : Checked → CheckedStep
-of_checked c = let v = c.verdict in record { number = verdict.number_of v; row = verdict.row_of v; column = verdict.column_of v; step = c.step }
+abbrev pub of_checked : Result ℤ Refusal → CheckedStep
+of_checked r = record { number = number_of r; row = row_of r; column = column_of r; step = value_of r }
 
 -- what moving a picture answers, and a call for a move's number
-abbrev pub of_moved : Moved → QuarterAnswer
+abbrev pub of_moved : Result Size Refusal → QuarterAnswer
 of_moved m =
-    let v = m.verdict in
-    record { number = verdict.number_of v; row = verdict.row_of v; column = verdict.column_of v; width = m.width; height = m.height }
+    record { number = number_of m; row = row_of m; column = column_of m; width = width_of m; height = height_of m }
 
-abbrev pub of_named : Named → Quarter
-of_named n = record { number = verdict.number_of n.verdict; value = n.quarter }
+abbrev pub of_named : Result ℕ Refusal → Quarter
+of_named r = record { number = number_of r; value = quarter_of r }
 
 -- 0 Level, 1 Under, 2 Over, each with its greys
 abbrev pub kind_of : Reading → ℕ
@@ -171,30 +169,30 @@ greys_of (Level greys) = greys
 greys_of (Under greys) = greys
 greys_of (Over greys) = greys
 
-abbrev pub of_reading : reading.ReadingAnswer → ReadingAnswer
+abbrev pub of_reading : Result Reading Refusal → ReadingAnswer
 of_reading a =
-    let v = a.verdict in
+    let reading = reading_of_answer a in
     record {
-      number = verdict.number_of v;
-      row = verdict.row_of v;
-      column = verdict.column_of v;
-      kind = kind_of a.reading;
-      greys = greys_of a.reading;
+      number = number_of a;
+      row = row_of a;
+      column = column_of a;
+      kind = kind_of reading;
+      greys = greys_of reading;
     }
 
-abbrev pub of_summary : summary.SummaryAnswer → SummaryAnswer
+abbrev pub of_summary : Result Summary Refusal → SummaryAnswer
 of_summary a =
-    let v = a.verdict in
+    let summary = summary_of_answer a in
     record {
-      number = verdict.number_of v;
-      row = verdict.row_of v;
-      column = verdict.column_of v;
-      darkest = a.summary.darkest;
-      lightest = a.summary.lightest;
+      number = number_of a;
+      row = row_of a;
+      column = column_of a;
+      darkest = summary.darkest;
+      lightest = summary.lightest;
     }
 
-abbrev pub of_written : Written → LineAnswer
-of_written w = record { number = written_number w; written = written_bytes w }
+abbrev pub of_written : Result ℕ Refusal → LineAnswer
+of_written w = record { number = number_of w; written = written_bytes w }
 
 -- r is laid out from an outcome of which the call beneath says all that it promises
 pub record Exported {O R : Type 0} (flattened : O → R) (Promised : O → Type 0) (r : R) : Type 0 where

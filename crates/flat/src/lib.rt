@@ -3,28 +3,25 @@
 #![tactic(auto)]
 
 ghost use Rattle.std.specs.Prelude.{◌≡◌, pos};
-ghost use Rattle.flat.specs.Exported.{border_of, setting_of, laid_as, of_change, of_verdict, of_outcome, of_block, of_line, of_sine, of_levelled, kind_of, greys_of, of_reading, of_summary, of_written, ticket_of, of_asked, of_forecast, of_explanation, of_checked, of_moved, of_named};
+ghost use Rattle.refusals.specs.Judging.{number, place};
+ghost use Rattle.flat.specs.Exported.{border_of, setting_of, laid_as, of_change, of_verdict, of_outcome, of_block, of_line, of_step, kind_of, greys_of, of_reading, of_summary, of_written, ticket_of, of_asked, of_forecast, of_explanation, of_checked, of_moved, of_named};
 
-use blocks::Outcome as BlockOutcome;
-use explanations::{Explanation, Term};
-use forecasts::Foretold;
-use format::Written;
-use graticule::Checked;
-use levelling::Levelled;
-use lines::LineOutcome;
+use blocks::BlockRefusal;
+use explanations::{Parts, Term};
+use forecasts::Figures;
+use lines::Moved;
 use lists::Extremes;
-use pictures::Outcome;
-use quarters::{Moved, Named};
-use readings::Reading;
-use refusals::Verdict;
+use pictures::Straightened;
+use quarters::Size;
+use readings::{Reading, Summary};
+use refusals::{Place, Refusal};
 use settings::{Border, Setting};
-use steps::{Change, StepSine};
-use tickets::{Asked, Ticket};
+use tickets::Ticket;
 
 // What most calls answer: 0 or the refusal number, the row and the column under 6, the number of lines interpolated, and the smallest and the
 // largest sample of a moved line or a straightened picture.
 #[repr(C)]
-#[derive(Clone, Copy)]
+#[derive(Clone, Copy, Default)]
 pub struct Answer {
     pub number: u32,
     pub row: usize,
@@ -37,7 +34,7 @@ pub struct Answer {
 // What the call on a block answers: 0 or the refusal number, the depth, the row and the column under 6, the number of lines interpolated over all slices,
 // and the smallest and the largest sample of the result.
 #[repr(C)]
-#[derive(Clone, Copy)]
+#[derive(Clone, Copy, Default)]
 pub struct BlockAnswer {
     pub number: u32,
     pub depth: usize,
@@ -92,7 +89,7 @@ pub struct FlatAsked {
 // What a forecast answers: 0 or the refusal number, a row and a column of 0, and the work places, the lines interpolated and the bound on every sample
 // of a straightening, all 0 where it was refused.
 #[repr(C)]
-#[derive(Clone, Copy)]
+#[derive(Clone, Copy, Default)]
 pub struct ForecastAnswer {
     pub number: u32,
     pub row: usize,
@@ -137,7 +134,7 @@ pub struct CheckedStep {
 // What moving a picture answers: 0 or the refusal number, the row and the column under 6, and the moved picture's width and height, 0 by 0 where it was
 // refused.
 #[repr(C)]
-#[derive(Clone, Copy)]
+#[derive(Clone, Copy, Default)]
 pub struct QuarterAnswer {
     pub number: u32,
     pub row: usize,
@@ -224,228 +221,291 @@ pub fn laid_as(setting: FlatSetting, changed: Setting) -> FlatSetting
     }
 }
 
-pub fn of_change(setting: FlatSetting, change: Change) -> FlatChange
-    ensures { result ≡ of_change setting change }
+// What changing a setting by a step answers: the changed setting, or the setting as it was under the refusal's number.
+pub fn of_change(setting: FlatSetting, changed: Result<Setting, Refusal>) -> FlatChange
+    ensures { result ≡ of_change setting changed }
 {
-    let changed = change.setting;
-    let flat = laid_as(setting, changed);
-    FlatChange {
-        number: change.number,
-        setting: flat,
+    match changed {
+        Ok(changed) => FlatChange {
+            number: 0,
+            setting: laid_as(setting, changed),
+        },
+        Err(refusal) => FlatChange {
+            number: refusal.number(),
+            setting,
+        },
     }
 }
 
 pub fn ticket_of(ticket: FlatTicket) -> Ticket
     ensures { result ≡ ticket_of ticket }
 {
-    let flat = ticket.setting;
-    let setting = setting_of(flat);
     Ticket {
         width: ticket.width,
         height: ticket.height,
-        setting,
+        setting: setting_of(ticket.setting),
         count: ticket.count,
     }
 }
 
-// ---- answers laid out flat
+// ---- answers laid out flat: refused, every figure but the number and the place is 0
 
-// What is told as the smallest and the largest sample where no sample was moved.
-const NO_SAMPLE: i32 = 0;
-
-pub fn accepted(count: u32, extremes: Extremes) -> Answer
-    ensures { result ≡ record { number = 0; row = 0; column = 0; count = count; smallest = extremes.smallest; largest = extremes.largest } }
-{
-    Answer {
-        number: 0,
-        row: 0,
-        column: 0,
-        count,
-        smallest: extremes.smallest,
-        largest: extremes.largest,
-    }
-}
-
-pub fn refused(number: u32, row: usize, column: usize) -> Answer
-    ensures { result ≡ record { number = number; row = row; column = column; count = 0; smallest = pos 0; largest = pos 0 } }
-{
-    Answer {
-        number,
-        row,
-        column,
-        count: 0,
-        smallest: NO_SAMPLE,
-        largest: NO_SAMPLE,
-    }
-}
-
-pub fn of_verdict(verdict: Verdict) -> Answer
-    ensures { result ≡ of_verdict verdict }
-{
-    match verdict {
-        Verdict::Accepted => {
-            let none = Extremes {
-                smallest: NO_SAMPLE,
-                largest: NO_SAMPLE,
-            };
-            accepted(0, none)
+impl Answer {
+    fn refused(refusal: Refusal) -> Answer
+        ensures { result ≡ record { number = number refusal; row = (place refusal).row; column = (place refusal).column; count = 0; smallest = pos 0; largest = pos 0 } }
+    {
+        let place = refusal.place();
+        Answer {
+            number: refusal.number(),
+            row: place.row,
+            column: place.column,
+            ..Answer::default()
         }
-        Verdict::Refused(number, row, column) => refused(number, row, column),
     }
-}
 
-pub fn of_outcome(outcome: Outcome) -> Answer
-    ensures { result ≡ of_outcome outcome }
-{
-    match outcome {
-        Outcome::Straightened(count, extremes) => accepted(count, extremes),
-        Outcome::Refused(number, row, column) => refused(number, row, column),
-    }
-}
-
-// The figures of an answer, with a depth.
-fn at_depth(depth: usize, answer: Answer) -> BlockAnswer
-    ensures { result ≡ record { number = answer.number; depth = depth; row = answer.row; column = answer.column; count = answer.count; smallest = answer.smallest; largest = answer.largest } }
-{
-    BlockAnswer {
-        number: answer.number,
-        depth,
-        row: answer.row,
-        column: answer.column,
-        count: answer.count,
-        smallest: answer.smallest,
-        largest: answer.largest,
-    }
-}
-
-pub fn of_block(outcome: BlockOutcome) -> BlockAnswer
-    ensures { result ≡ of_block outcome }
-{
-    match outcome {
-        BlockOutcome::Straightened(count, extremes) => at_depth(0, accepted(count, extremes)),
-        BlockOutcome::Refused(number, depth, row, column) => {
-            at_depth(depth, refused(number, row, column))
+    fn accepted(count: u32, extremes: Extremes) -> Answer
+        ensures { result ≡ record { number = 0; row = 0; column = 0; count = count; smallest = extremes.smallest; largest = extremes.largest } }
+    {
+        Answer {
+            count,
+            smallest: extremes.smallest,
+            largest: extremes.largest,
+            ..Answer::default()
         }
     }
 }
 
-pub fn of_line(outcome: LineOutcome) -> Answer
-    ensures { result ≡ of_line outcome }
-{
-    match outcome {
-        LineOutcome::Moved(interpolated, extremes) => accepted(interpolated as u32, extremes),
-        LineOutcome::Refused(number, row, column) => refused(number, row, column),
+impl From<Result<(), Refusal>> for Answer {
+    ghost from_gives = { λ verdict answer. answer ≡ of_verdict verdict };
+
+    fn from(verdict: Result<(), Refusal>) -> Answer {
+        match verdict {
+            Ok(()) => Answer::default(),
+            Err(refusal) => Answer::refused(refusal),
+        }
+    }
+}
+
+impl From<Result<Straightened, Refusal>> for Answer {
+    ghost from_gives = { λ outcome answer. answer ≡ of_outcome outcome };
+
+    fn from(outcome: Result<Straightened, Refusal>) -> Answer {
+        match outcome {
+            Ok(done) => Answer::accepted(done.lines, done.extremes),
+            Err(refusal) => Answer::refused(refusal),
+        }
+    }
+}
+
+impl From<Result<Moved, Refusal>> for Answer {
+    ghost from_gives = { λ outcome answer. answer ≡ of_line outcome };
+
+    fn from(outcome: Result<Moved, Refusal>) -> Answer {
+        match outcome {
+            Ok(moved) => Answer::accepted(u32::from(moved.interpolated), moved.extremes),
+            Err(refusal) => Answer::refused(refusal),
+        }
+    }
+}
+
+impl From<Result<Straightened, BlockRefusal>> for BlockAnswer {
+    ghost from_gives = { λ outcome answer. answer ≡ of_block outcome };
+
+    fn from(outcome: Result<Straightened, BlockRefusal>) -> BlockAnswer {
+        match outcome {
+            Ok(done) => BlockAnswer {
+                count: done.lines,
+                smallest: done.extremes.smallest,
+                largest: done.extremes.largest,
+                ..BlockAnswer::default()
+            },
+            Err(BlockRefusal { refusal, depth }) => {
+                let Place { row, column } = refusal.place();
+                BlockAnswer {
+                    number: refusal.number(),
+                    depth,
+                    row,
+                    column,
+                    ..BlockAnswer::default()
+                }
+            }
+        }
     }
 }
 
 // What asking answers: the ticket has the flat setting as it was asked, bit for bit.
-pub fn of_asked(setting: FlatSetting, asked: Asked) -> FlatAsked
+pub fn of_asked(setting: FlatSetting, asked: Result<Ticket, Refusal>) -> FlatAsked
     ensures { result ≡ of_asked setting asked }
 {
-    let verdict = asked.verdict;
-    let judged = of_verdict(verdict);
-    let given = asked.ticket;
-    let ticket = FlatTicket {
-        width: given.width,
-        height: given.height,
-        setting,
-        count: given.count,
-    };
-    FlatAsked {
-        number: judged.number,
-        row: judged.row,
-        column: judged.column,
-        ticket,
+    match asked {
+        Ok(given) => FlatAsked {
+            number: 0,
+            row: 0,
+            column: 0,
+            ticket: FlatTicket {
+                width: given.width,
+                height: given.height,
+                setting,
+                count: given.count,
+            },
+        },
+        Err(refusal) => {
+            let Place { row, column } = refusal.place();
+            FlatAsked {
+                number: refusal.number(),
+                row,
+                column,
+                ticket: FlatTicket {
+                    width: 0,
+                    height: 0,
+                    setting,
+                    count: 0,
+                },
+            }
+        }
     }
 }
 
-pub fn of_forecast(told: Foretold) -> ForecastAnswer
-    ensures { result ≡ of_forecast told }
-{
-    let verdict = told.verdict;
-    let judged = of_verdict(verdict);
-    let figures = told.figures;
-    ForecastAnswer {
-        number: judged.number,
-        row: judged.row,
-        column: judged.column,
-        work: figures.work,
-        count: figures.count,
-        bound: figures.bound,
+impl From<Result<Figures, Refusal>> for ForecastAnswer {
+    ghost from_gives = { λ told answer. answer ≡ of_forecast told };
+
+    fn from(told: Result<Figures, Refusal>) -> ForecastAnswer {
+        match told {
+            Ok(figures) => ForecastAnswer {
+                work: figures.work,
+                count: figures.count,
+                bound: figures.bound,
+                ..ForecastAnswer::default()
+            },
+            Err(refusal) => {
+                let Place { row, column } = refusal.place();
+                ForecastAnswer {
+                    number: refusal.number(),
+                    row,
+                    column,
+                    ..ForecastAnswer::default()
+                }
+            }
+        }
     }
 }
 
-pub fn of_explanation(explanation: Explanation) -> ExplanationAnswer
-    ensures { result ≡ of_explanation explanation }
-{
-    let verdict = explanation.verdict;
-    let judged = of_verdict(verdict);
-    let parts = explanation.parts;
-    let terms = parts.terms;
-    ExplanationAnswer {
-        number: judged.number,
-        row: judged.row,
-        column: judged.column,
-        terms,
-        sum: parts.sum,
-        divisor: parts.divisor,
-        quotient: parts.quotient,
+// A refused explanation's terms.
+const NO_TERM: Term = Term {
+    place: 0,
+    weight: 0,
+    value: 0,
+    product: 0,
+};
+
+impl From<Result<Parts, Refusal>> for ExplanationAnswer {
+    ghost from_gives = { λ told answer. answer ≡ of_explanation told };
+
+    #[tactic(auto, unfolding(explanations::specs::Made::no_parts, lists::specs::Tab::tab))]
+    fn from(told: Result<Parts, Refusal>) -> ExplanationAnswer {
+        match told {
+            Ok(parts) => {
+                let terms = parts.terms;
+                ExplanationAnswer {
+                    number: 0,
+                    row: 0,
+                    column: 0,
+                    terms,
+                    sum: parts.sum,
+                    divisor: parts.divisor,
+                    quotient: parts.quotient,
+                }
+            }
+            Err(refusal) => {
+                let Place { row, column } = refusal.place();
+                let terms = [NO_TERM; 4];
+                ExplanationAnswer {
+                    number: refusal.number(),
+                    row,
+                    column,
+                    terms,
+                    sum: 0,
+                    divisor: 0,
+                    quotient: 0,
+                }
+            }
+        }
     }
 }
 
-pub fn of_sine(sine: StepSine) -> Step
-    ensures { result ≡ of_sine sine }
-{
-    match sine {
-        StepSine::Value(value) => Step { number: 0, value },
-        StepSine::Refused(number) => Step { number, value: 0 },
+// S of a step, and the step of levelling.
+impl From<Result<i32, Refusal>> for Step {
+    ghost from_gives = { λ told answer. answer ≡ of_step told };
+
+    fn from(told: Result<i32, Refusal>) -> Step {
+        match told {
+            Ok(value) => Step { number: 0, value },
+            Err(refusal) => Step {
+                number: refusal.number(),
+                value: 0,
+            },
+        }
     }
 }
 
-pub fn of_levelled(levelled: Levelled) -> Step
-    ensures { result ≡ of_levelled levelled }
-{
-    match levelled {
-        Levelled::Step(value) => Step { number: 0, value },
-        Levelled::Refused(number) => Step { number, value: 0 },
+impl From<Result<i32, Refusal>> for CheckedStep {
+    ghost from_gives = { λ told answer. answer ≡ of_checked told };
+
+    fn from(told: Result<i32, Refusal>) -> CheckedStep {
+        match told {
+            Ok(step) => CheckedStep {
+                number: 0,
+                row: 0,
+                column: 0,
+                step,
+            },
+            Err(refusal) => {
+                let Place { row, column } = refusal.place();
+                CheckedStep {
+                    number: refusal.number(),
+                    row,
+                    column,
+                    step: 0,
+                }
+            }
+        }
     }
 }
 
-pub fn of_checked(checked: Checked) -> CheckedStep
-    ensures { result ≡ of_checked checked }
-{
-    let verdict = checked.verdict;
-    let judged = of_verdict(verdict);
-    CheckedStep {
-        number: judged.number,
-        row: judged.row,
-        column: judged.column,
-        step: checked.step,
+impl From<Result<Size, Refusal>> for QuarterAnswer {
+    ghost from_gives = { λ moved answer. answer ≡ of_moved moved };
+
+    fn from(moved: Result<Size, Refusal>) -> QuarterAnswer {
+        match moved {
+            Ok(size) => QuarterAnswer {
+                width: size.width,
+                height: size.height,
+                ..QuarterAnswer::default()
+            },
+            Err(refusal) => {
+                let Place { row, column } = refusal.place();
+                QuarterAnswer {
+                    number: refusal.number(),
+                    row,
+                    column,
+                    ..QuarterAnswer::default()
+                }
+            }
+        }
     }
 }
 
-pub fn of_moved(moved: Moved) -> QuarterAnswer
-    ensures { result ≡ of_moved moved }
-{
-    let verdict = moved.verdict;
-    let judged = of_verdict(verdict);
-    QuarterAnswer {
-        number: judged.number,
-        row: judged.row,
-        column: judged.column,
-        width: moved.width,
-        height: moved.height,
-    }
-}
+impl From<Result<u32, Refusal>> for Quarter {
+    ghost from_gives = { λ named answer. answer ≡ of_named named };
 
-pub fn of_named(named: Named) -> Quarter
-    ensures { result ≡ of_named named }
-{
-    let verdict = named.verdict;
-    let judged = of_verdict(verdict);
-    Quarter {
-        number: judged.number,
-        value: named.quarter,
+    fn from(named: Result<u32, Refusal>) -> Quarter {
+        match named {
+            Ok(value) => Quarter { number: 0, value },
+            Err(refusal) => Quarter {
+                number: refusal.number(),
+                value: 0,
+            },
+        }
     }
 }
 
@@ -463,50 +523,77 @@ pub fn greys_of(reading: Reading) -> f32
     ensures { result ≡ greys_of reading }
 {
     match reading {
-        Reading::Level(greys) => greys,
-        Reading::Under(greys) => greys,
-        Reading::Over(greys) => greys,
+        Reading::Level(greys) | Reading::Under(greys) | Reading::Over(greys) => greys,
     }
 }
 
-pub fn of_reading(answer: readings::ReadingAnswer) -> ReadingAnswer
-    ensures { result ≡ of_reading answer }
-{
-    let verdict = answer.verdict;
-    let judged = of_verdict(verdict);
-    let reading = answer.reading;
-    ReadingAnswer {
-        number: judged.number,
-        row: judged.row,
-        column: judged.column,
-        kind: kind_of(reading),
-        greys: greys_of(reading),
+// Refused, a reading is Level 0.
+impl From<Result<Reading, Refusal>> for ReadingAnswer {
+    ghost from_gives = { λ told answer. answer ≡ of_reading told };
+
+    #[tactic(auto, using(readings::proofs::Exact::zero_bits))]
+    fn from(told: Result<Reading, Refusal>) -> ReadingAnswer {
+        match told {
+            Ok(reading) => ReadingAnswer {
+                number: 0,
+                row: 0,
+                column: 0,
+                kind: kind_of(reading),
+                greys: greys_of(reading),
+            },
+            Err(refusal) => {
+                let Place { row, column } = refusal.place();
+                ReadingAnswer {
+                    number: refusal.number(),
+                    row,
+                    column,
+                    kind: 0,
+                    greys: 0.0,
+                }
+            }
+        }
     }
 }
 
-pub fn of_summary(answer: readings::SummaryAnswer) -> SummaryAnswer
-    ensures { result ≡ of_summary answer }
-{
-    let verdict = answer.verdict;
-    let judged = of_verdict(verdict);
-    let summary = answer.summary;
-    SummaryAnswer {
-        number: judged.number,
-        row: judged.row,
-        column: judged.column,
-        darkest: summary.darkest,
-        lightest: summary.lightest,
+// Refused, both greys of a summary are 0.
+impl From<Result<Summary, Refusal>> for SummaryAnswer {
+    ghost from_gives = { λ told answer. answer ≡ of_summary told };
+
+    #[tactic(auto, using(readings::proofs::Exact::zero_bits))]
+    fn from(told: Result<Summary, Refusal>) -> SummaryAnswer {
+        match told {
+            Ok(summary) => SummaryAnswer {
+                number: 0,
+                row: 0,
+                column: 0,
+                darkest: summary.darkest,
+                lightest: summary.lightest,
+            },
+            Err(refusal) => {
+                let Place { row, column } = refusal.place();
+                SummaryAnswer {
+                    number: refusal.number(),
+                    row,
+                    column,
+                    darkest: 0.0,
+                    lightest: 0.0,
+                }
+            }
+        }
     }
 }
 
-pub fn of_written(written: Written) -> LineAnswer
-    ensures { result ≡ of_written written }
-{
-    match written {
-        Written::Bytes(n) => LineAnswer {
-            number: 0,
-            written: n,
-        },
-        Written::Refused(number) => LineAnswer { number, written: 0 },
+// The bytes written of an answer to a line.
+impl From<Result<usize, Refusal>> for LineAnswer {
+    ghost from_gives = { λ written answer. answer ≡ of_written written };
+
+    fn from(written: Result<usize, Refusal>) -> LineAnswer {
+        match written {
+            Ok(written) => LineAnswer { number: 0, written },
+            Err(refusal) => LineAnswer {
+                number: refusal.number(),
+                written: 0,
+            },
+        }
     }
 }

@@ -5,18 +5,18 @@ use mathlib.Core.List.{[], ◌∷◌, map}
 use lib.IntN.{ℤ, pos, negsuc}
 use Rattle.arith.specs.Whole.{floor, remainder}
 use Rattle.arith.specs.Move.{fraction}
-use Rattle.refusals.specs.declared.Verdict.TheVariants.{Accepted, Refused}
+use Rattle.std.specs.Prelude.{Ok, Err}
+use Rattle.refusals.specs.declared.Refusal.TheVariants.{TooLarge}
 use Rattle.refusals.specs.Tests.{bad_side, bad_size, bad_kernel, beyond_of}
 use Rattle.settings.specs.declared.Border.{Border}
 use Rattle.settings.specs.declared.Border.TheVariants.{Wrapped, Background}
 use Rattle.settings.specs.declared.Setting.{Setting}
 use Rattle.settings.specs.Setting.{with_kernel, with_shears}
-use Rattle.kernels.specs.Kernel.{Linear, Keys, Spline}
+use Rattle.kernels.specs.declared.Kernel.TheVariants.{Linear, Keys, Spline}
 use Rattle.moves.specs.Border.{far, gone, fraction_in, bad_background}
 use Rattle.passes.specs.Count.{interpolated, count}
 use Rattle.acceptance.specs.Judge.{bad_centre, bad_shears}
-use Rattle.forecasts.specs.declared.Foretold.{Foretold}
-use Rattle.forecasts.specs.Figures.{judged_ahead, largest_in, bound_of, forecast_of}
+use Rattle.forecasts.specs.Figures.{Foretold, figures_in, judged_ahead, largest_in, bound_of, forecast_of}
 
 abbrev still : Setting
 still = record { kernel = 0; cx = 0; cy = 0; a = pos 0; b = pos 0; border = Wrapped }
@@ -37,7 +37,7 @@ backgrounds = refl
 
 -- ---- figures
 abbrev told : ℕ → ℕ → ℤ → Foretold
-told work count bound = record { verdict = Accepted; figures = record { work = work; count = count; bound = bound } }
+told work count bound = Ok (record { work = work; count = count; bound = bound })
 
 -- a picture of 2 by 5, its rows moved by 2,049·y: four of them are interpolated in each pass over rows, of which the last moves by more than its two samples,
 -- so that on a background it is not
@@ -58,6 +58,6 @@ unfolding forecast_of judged_ahead bad_size bad_side bad_centre bad_shears bad_k
 rows_and_columns = refl
 
 -- a refusal gives 0 for every figure
-refused : forecast_of 3 2 still 32768 ≡ record { verdict = Refused 6 0 0; figures = record { work = 0; count = 0; bound = pos 0 } }
+refused : (forecast_of 3 2 still 32768 ≡ Err TooLarge) × (figures_in (forecast_of 3 2 still 32768) ≡ record { work = 0; count = 0; bound = pos 0 })
 unfolding forecast_of judged_ahead bad_size bad_side bad_centre bad_shears bad_kernel bad_background beyond_of
-refused = refl
+refused = (refl, refl)

@@ -13,23 +13,24 @@ use Rattle.arith.proofs.Laws.{≤ℤ_trans}
 use Rattle.arith.proofs.Within.{size_within}
 use Rattle.lists.specs.Line.{line}
 use Rattle.lists.proofs.Ends.{smallest_is, largest_is, extreme_has}
-use Rattle.refusals.specs.declared.Verdict.TheVariants.{Accepted, Refused}
+use Rattle.std.specs.Prelude.{Ok, Err}
+use Rattle.refusals.specs.declared.Refusal.TheVariants.{TooShort, TooLarge}
 use Rattle.refusals.specs.Tests.{bad_size, short, AllWithin}
+use Rattle.refusals.specs.Judging.{accepted, refused_if, answer_by, number_of}
 use Rattle.settings.specs.declared.Border.{Border}
 use Rattle.settings.specs.declared.Setting.{Setting}
-use Rattle.kernels.specs.Kernel.{Kernel, Linear, Keys, Spline}
+use Rattle.kernels.specs.declared.Kernel.{Kernel}
+use Rattle.kernels.specs.declared.Kernel.TheVariants.{Linear, Keys, Spline}
 use Rattle.moves.specs.Border.{grey}
 use Rattle.moves.proofs.Range.{range_within, kernel_linear}
 use Rattle.moves.proofs.Reach.{reach}
 use Rattle.passes.proofs.Reach.{straighten_reach}
-use Rattle.acceptance.specs.Judge.{too_short, judged_on, Fit}
-use Rattle.acceptance.proofs.Accepted.{fit_size, fit_accepted}
-use Rattle.pictures.specs.declared.Outcome.{Outcome}
-use Rattle.pictures.specs.Answer.{number_of, smallest_of, largest_of, kernel_in, row_moves, column_moves}
+use Rattle.acceptance.specs.Judge.{range, too_short, judged_on, Fit}
+use Rattle.acceptance.proofs.Accepted.{fit_size, fit_accepted, answered_zero}
+use Rattle.pictures.specs.Answer.{Outcome, smallest_of, largest_of, kernel_in, row_moves, column_moves}
 use Rattle.pictures.proofs.Call.{refused-answer, answered_once, was_accepted, was_fit, was_straightened, was_told}
-use Rattle.forecasts.specs.declared.Foretold.{Foretold}
 use Rattle.forecasts.specs.declared.Figures.{Figures}
-use Rattle.forecasts.specs.Figures.{judged_ahead, largest_in, bound_of, figures_of, forecast_of}
+use Rattle.forecasts.specs.Figures.{judged_ahead, largest_in, bound_of, figures_of, Foretold, figures_in, forecast_of}
 use Rattle.forecasts.specs.TwoCalls.{TwoCalls, Bounded, AllBounded, Holds, Kept}
 use Rattle.forecasts.proofs.Accepted.{Foreseeable, accepted_ahead, only_largest}
 
@@ -55,24 +56,26 @@ unfolding too_short short
 work_short W H picture result work less = rw (lt-ltb work (12 * max W H) less, or-true (ltb result (W * H))) (or-true (ltb picture (W * H)))
 
 short-refused : (other : Bool) (W H : ℕ) (s : Setting) (picture : List ℤ) (result work : ℕ) → bad_size W H ≡ false → work < 12 * max W H
-    → judged_on other W H s picture result work ≡ Refused 2 0 0
+    → judged_on other W H s picture result work ≡ Err TooShort
 unfolding judged_on
 short-refused other W H s picture result work size less = rw (size, work_short W H (length picture) result work less) refl
 
 -- ---- the two calls
 module _ {other : Bool} {W H : ℕ} {s : Setting} {M : ℕ} {f : Foretold} {picture result work : List ℤ} {r : Outcome} {result' work' : List ℤ}
     (two : TwoCalls other W H s M f picture result work r result' work') where
-  judged : f.verdict ≡ judged_ahead W H s M
+  foretold : f ≡ answer_by (judged_ahead W H s M) (figures_of W H s M)
   unfolding forecast_of
-  judged = ap (λ (f : Foretold). f.verdict) two.forecast
+  foretold = two.forecast
 
-  module _ (accepted : f.verdict ≡ Accepted) where
-    told : f.figures ≡ figures_of W H s M
-    unfolding forecast_of
-    told = ap (λ (f : Foretold). f.figures) two.forecast ∙ rw (← judged, accepted) refl
+  module _ (told_zero : number_of f ≡ 0) where
+    judged : judged_ahead W H s M ≡ accepted
+    judged = answered_zero _ (figures_of W H s M) (sym (ap number_of foretold) ∙ told_zero)
+
+    told : figures_in f ≡ figures_of W H s M
+    told = rw (foretold, judged) refl
 
     passed : Foreseeable W H s M
-    passed = accepted_ahead W H s M (sym judged ∙ accepted)
+    passed = accepted_ahead W H s M judged
 
     -- the largest size of any sample that goes into a line
     abbrev size : ℕ
@@ -100,19 +103,19 @@ module _ {other : Bool} {W H : ℕ} {s : Setting} {M : ℕ} {f : Foretold} {pict
       within zero linear = rw (kernel_linear s.kernel linear) (by_range linear)
       within (suc k) e = by_reach
 
-      bounded : AllBounded f.figures.bound (W * H) result'
+      bounded : AllBounded (figures_in f).bound (W * H) result'
       bounded = rw told (within s.kernel refl)
 
-      extremes : Bounded f.figures.bound (smallest_of r) × Bounded f.figures.bound (largest_of r)
+      extremes : Bounded (figures_in f).bound (smallest_of r) × Bounded (figures_in f).bound (largest_of r)
       extremes =
           let figures = was_told other two.straightening done in
           let some = mul-pos passed.width.0 passed.height.0 in
           rw (figures.0, figures.1) (
-            extreme_has _ (Bounded f.figures.bound) (line result') (W * H) _ (smallest_is (line result') (W * H) some) bounded,
-            extreme_has _ (Bounded f.figures.bound) (line result') (W * H) _ (largest_is (line result') (W * H) some) bounded,
+            extreme_has _ (Bounded (figures_in f).bound) (line result') (W * H) _ (smallest_is (line result') (W * H) some) bounded,
+            extreme_has _ (Bounded (figures_in f).bound) (line result') (W * H) _ (largest_is (line result') (W * H) some) bounded,
           )
 
-    fits : W * H ≤ length picture → W * H ≤ length result → f.figures.work ≤ length work → AllWithin 32767 (W * H) picture → Fit W H s picture (length result) (length work)
+    fits : W * H ≤ length picture → W * H ≤ length result → (figures_in f).work ≤ length work → AllWithin 32767 (W * H) picture → Fit W H s picture (length result) (length work)
     fits p q w range =
         record {
           width = passed.width;
@@ -132,14 +135,22 @@ module _ {other : Bool} {W H : ℕ} {s : Setting} {M : ℕ} {f : Foretold} {pict
           extremes = extremes;
           short = λ less.
               answered_once (rw (short-refused other W H s picture (length result) (length work) (fit_size W H passed.width passed.height) (omega (arith, ap (λ (g : Figures). g.work) told))) at two.straightening)
-              (refused-answer (Refused 2 0 0) W H s picture result work 2 0 0 refl);
+              (refused-answer (Err TooShort) W H s picture result work TooShort refl);
           enough = λ single p q w each.
               two.straightening.number ∙ rw (single, fit_accepted W H s picture (length result) (length work) (fits p q w (λ i l. omega (arith, each i l, passed.small)))) refl;
         }
 
+  -- a forecast that is judged by M alone
+  by_largest : (t : Bool) (figures : Figures) → answer_by (refused_if t TooLarge accepted) figures
+      ≡ refused_if t TooLarge (Ok (figures_in (answer_by (refused_if t TooLarge accepted) figures)))
+  by_largest true figures = refl
+  by_largest false figures = refl
+
   pub kept : Kept other W H M f picture result work r result' work'
   kept =
       record {
-        holds = λ accepted. holds accepted;
-        none_left_out = λ zero. let fit = was_fit other two.straightening zero in judged ∙ only_largest W H s M fit.width fit.height fit.setting;
+        holds = λ told_zero. holds told_zero;
+        none_left_out = λ zero.
+            let fit = was_fit other two.straightening zero in
+            rw (foretold, only_largest W H s M fit.width fit.height fit.setting) (by_largest (ltb range M) (figures_of W H s M));
       }

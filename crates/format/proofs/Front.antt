@@ -1,7 +1,7 @@
 -- Text at the front of a buffer: pieces behind each other, spelt and closed, where it fits. Assumes nothing.
 use Prim.Native.Nat.{ℕ, suc, ◌+◌, ◌-◌, ◌≤◌, ◌<◌}
 use mathlib.Core.List.{List, [], ◌∷◌, ◌++◌, map, append_assoc}
-use mathlib.Core.Path.{◌≡◌, refl, sym, ◌∙◌}
+use mathlib.Core.Path.{◌≡◌, refl, sym, ap, ◌∙◌}
 use native.Mathlib.Nat.{add-sub_cancel_left}
 use native.Mathlib.Numerals.{add-one}
 use native.Mathlib.Omega.{arith}
@@ -9,22 +9,24 @@ use borrow.Author.Tests.{le-leb, lt-leb}
 use borrow.Rule.Slice.PartMut.{put_mid}
 use lib.ListN.{length, take, drop, set, length-append, length-map, length-take, length-drop}
 use lib.Seq.{take_at, drop_at, drop-drop, drop-cons, set_at}
+use Rattle.std.specs.Prelude.{Ok, Err}
+use Rattle.refusals.specs.declared.Refusal.TheVariants.{TooShort}
 use Rattle.digits.proofs.Place.{length-places}
 use Rattle.digits.specs.Digit.{places_of, spelt}
-use Rattle.format.specs.Room.{fitted, fitted_length, Fitted, Front, piece_at, closed}
+use Rattle.format.specs.Room.{fitted, written_of, Written, Front, piece_at, closed}
 
 -- a text that has room, and one that has none
-pub fits : (text d after : List ℕ) (n : ℕ) → length text ≡ n → n ≤ length d → Front text d after → Fitted text d after n
-unfolding fitted fitted_length
+pub fits : (text d after : List ℕ) (n : ℕ) → length text ≡ n → n ≤ length d → Front text d after → Written text d after (Ok n)
+unfolding fitted written_of
 fits text d after n l h f =
     record {
       holds = rw (le-leb (length text) (length d) (omega arith)) f.stands;
-      wrote = rw (le-leb (length text) (length d) (omega arith)) (sym l);
+      answer = rw (le-leb (length text) (length d) (omega arith)) (ap Ok (sym l));
     }
 
-pub too_long : (text d : List ℕ) (n : ℕ) → length text ≡ n → length d < n → Fitted text d d 0
-unfolding fitted fitted_length
-too_long text d n l h = record { holds = rw (lt-leb (length text) (length d) (omega arith)) refl; wrote = rw (lt-leb (length text) (length d) (omega arith)) refl }
+pub too_long : (text d : List ℕ) (n : ℕ) → length text ≡ n → length d < n → Written text d d (Err TooShort)
+unfolding fitted written_of
+too_long text d n l h = record { holds = rw (lt-leb (length text) (length d) (omega arith)) refl; answer = rw (lt-leb (length text) (length d) (omega arith)) refl }
 
 -- nothing stands; and a piece behind what stands
 pub front_none : (d : List ℕ) → Front [] d d
@@ -50,7 +52,7 @@ front_more text piece d d1 d2 at l f e =
 
 -- a text spelt and closed
 pub front_closed : (text d d1 d2 : List ℕ) (n : ℕ) → length text ≡ n → n < length d → Front text d d1 → d2 ≡ closed n d1
-    → Fitted (map spelt text ++ (10 ∷ [])) d d2 (n + 1)
+    → Written (map spelt text ++ (10 ∷ [])) d d2 (Ok (n + 1))
 unfolding closed
 front_closed text d d1 d2 n l h f e =
     let k : length (map spelt text ++ (10 ∷ [])) ≡ n + 1 = simp (length-append, length-map) (omega arith) in

@@ -13,14 +13,16 @@ use Rattle.digits.proofs.Test.{all_at, digit_worth}
 use Rattle.digits.specs.Digit.{all_digits}
 use Rattle.lists.proofs.Tab.{tab_at}
 use Rattle.lists.specs.Line.{line}
-use Rattle.lists.specs.Tab.{tab}
+use Rattle.std.specs.Prelude.{Result, Err}
+use Rattle.refusals.specs.Judging.{number, place}
+use Rattle.refusals.specs.declared.Refusal.{Refusal}
+use Rattle.refusals.proofs.Judging.{some_number}
 use Rattle.refusals.proofs.Tests.{size_good}
 use Rattle.format.specs.Answer.{number_of, count_of, straightened_of, refusal_text, judged_text, is_accepted, answer_of}
-use Rattle.format.specs.Answered.{Roomy, written_of, LineAnswered}
-use Rattle.format.specs.declared.Written.TheVariants.{Bytes, Refused}
-use Rattle.format.specs.Room.{fitted_length, Fitted}
+use Rattle.format.specs.Answered.{Roomy, judged_in, written_bytes, LineAnswered}
+use Rattle.format.specs.Room.{fitted_length, Fitted, written_of, Written}
 use Rattle.format.specs.Line.{width_in, height_in, size_in, well_formed, sample_at, samples_in}
-use Rattle.format.proofs.Outcome.{none, work_enough, straightened-length}
+use Rattle.format.proofs.Outcome.{figures_in, none, work_enough, straightened-length}
 use Rattle.format.proofs.Text.{length_refusal, length-accepted}
 
 both : (a b : Bool) → (a && b) ≡ true → (a ≡ true) × (b ≡ true)
@@ -58,9 +60,25 @@ pub answer-accepted : (l : List ℕ) → well_formed l ≡ true → number_of l 
 unfolding answer_of
 answer-accepted l e z = rw (e, z) refl
 
-pub answer-refused : (l : List ℕ) → well_formed l ≡ true → 0 < number_of l → refusal_text (number_of l) 0 0 ≡ answer_of l
+-- the refusal of the tests has the line's number, and names no place
+pub refused_number : {A : Type 0} (x : A) (l : List ℕ) (refusal : Refusal) → judged_in l x ≡ Err refusal → (number refusal ≡ number_of l) × (0 < number_of l)
+refused_number x l refusal e =
+    let n : number refusal ≡ number_of l = rw e at (figures_in l x).number in
+    (n, by (number_of l) n)
+  where
+    by : (n : ℕ) → number refusal ≡ n → 0 < n
+    by zero z = absurd (some_number refusal z)
+    by (suc n) z = omega arith
+
+pub answer-refused : {A : Type 0} (x : A) (l : List ℕ) (refusal : Refusal) → well_formed l ≡ true → judged_in l x ≡ Err refusal
+    → refusal_text (number refusal) (place refusal).row (place refusal).column ≡ answer_of l
 unfolding answer_of judged_text
-answer-refused l e h = by (number_of l) refl h
+answer-refused x l refusal e j =
+    let f = figures_in l x in
+    let row : (place refusal).row ≡ 0 = rw j at f.row in
+    let column : (place refusal).column ≡ 0 = rw j at f.column in
+    let (n, some) = refused_number x l refusal j in
+    rw (n, row, column) (by (number_of l) refl some)
   where
     by : (n : ℕ) → number_of l ≡ n → 0 < n → refusal_text (number_of l) 0 0 ≡ answer_of l
     by zero f k = absurd (omega arith)
@@ -156,20 +174,15 @@ answer-short l = by (well_formed l) refl
     by true e = judged-short l (number_of l) (well l e).small
     by false e = rw (length_refusal 9 0 0) (omega arith)
 
--- ---- the call for one line: no answer is empty, so 0 bytes say that it does not fit
-module _ (l out out' : List ℕ) (n : ℕ) (f : Fitted (answer_of l) out out' n) where
-  pub answered_short : n ≡ 0 → LineAnswered l out out' (Refused 2)
+-- ---- the call for one line
+module _ (l out out' : List ℕ) (r : Result ℕ Refusal) (f : Written (answer_of l) out out' r) where
+  pub line_answered : LineAnswered l out out' r
   unfolding written_of fitted_length
-  answered_short z = by (leb (length (answer_of l)) (length out)) refl f.wrote
+  line_answered = rw f.answer (by (leb (length (answer_of l)) (length out)) refl)
     where
-      by : (t : Bool) → leb (length (answer_of l)) (length out) ≡ t → n ≡ cond t (length (answer_of l)) 0 → LineAnswered l out out' (Refused 2)
-      by true e k = absurd (omega (arith, answer_some l))
-      by false e k = record { answer = rw e refl; text = f.holds; number = rw e refl; bytes = rw e refl }
+      by : (t : Bool) → leb (length (answer_of l)) (length out) ≡ t → LineAnswered l out out' (written_of (answer_of l) out)
+      by true e = record { answer = refl; text = f.holds; number = rw e refl; bytes = rw e refl }
+      by false e = record { answer = refl; text = f.holds; number = rw e refl; bytes = rw e refl }
 
-  pub answered_bytes : (n ≡ 0 → ⊥) → LineAnswered l out out' (Bytes n)
-  unfolding written_of fitted_length
-  answered_bytes some = by (leb (length (answer_of l)) (length out)) refl f.wrote
-    where
-      by : (t : Bool) → leb (length (answer_of l)) (length out) ≡ t → n ≡ cond t (length (answer_of l)) 0 → LineAnswered l out out' (Bytes n)
-      by true e k = record { answer = rw (e, k) refl; text = f.holds; number = rw e refl; bytes = rw e k }
-      by false e k = absurd (some k)
+  pub line_fitted : Fitted (answer_of l) out out' (written_bytes r)
+  line_fitted = let a = line_answered in record { holds = a.text; wrote = a.bytes }

@@ -1,9 +1,9 @@
--- The lowest number that applies to a line, as the code judges it; and the straightener's verdict on a line that none applies to: its lent
+-- The lowest number that applies to a line, and the refusal that has it; and the straightener's verdict on a line that none applies to: its lent
 -- places are enough and its samples are in range. Under linear its answer keeps the range of its samples. Assumes nothing.
 use Prim.Native.Nat.{ℕ, suc, ◌*◌, ◌≤◌, ◌<◌, max}
 use mathlib.Core.Bool.{Bool, true, false, cond}
 use mathlib.Core.List.{List}
-use mathlib.Core.Path.{◌≡◌, refl, ◌∙◌}
+use mathlib.Core.Path.{◌≡◌, refl, sym, ◌∙◌}
 use native.Mathlib.Omega.{arith}
 use native.Mathlib.Nat.{mul_comm}
 use borrow.Author.Tests.{le-ltb}
@@ -20,16 +20,22 @@ use Rattle.moves.proofs.Range.{kernel_linear}
 use Rattle.passes.specs.Picture.{straighten}
 use Rattle.lists.proofs.Picture.{length-pictured}
 use Rattle.passes.proofs.Range.{straighten_in_range}
+use Rattle.std.specs.Prelude.{None, Result, Ok, Err, ltb}
 use Rattle.refusals.specs.Tests.{bad_size, bad_kernel, short}
-use Rattle.refusals.specs.declared.Verdict.TheVariants.{Accepted}
+use Rattle.refusals.specs.Judging as judging
+use Rattle.refusals.specs.Judging.{accepted, refused_if, Figures}
+use Rattle.refusals.specs.declared.Refusal.{Refusal}
+use Rattle.refusals.specs.declared.Refusal.TheVariants.{BadSize, BadCentre, TooFar, BadKernel}
+use Rattle.settings.specs.declared.Setting.{Setting}
+use Rattle.settings.specs.Setting.{with_shears}
 use Rattle.refusals.proofs.Tests.{size_good, beyond_good, good_beyond}
 use Rattle.refusals.proofs.First.{nothing_bad}
 use Rattle.steps.specs.Table.{sines}
-use Rattle.steps.specs.declared.Change.{Change}
 use Rattle.steps.specs.Step.{entry, beyond, S, change_of}
-use Rattle.acceptance.specs.Judge.{range, too_short, bad_centre, bad_shears, judged_on, judged}
-use Rattle.format.specs.Answer.{change_in, setting_in, number_of, straightened_of}
-use Rattle.format.specs.Answered.{lowest, work_in}
+use Rattle.acceptance.specs.Judge.{range, too_short, bad_centre, bad_shears, judged_on}
+use Rattle.acceptance.specs.Judge as acceptance
+use Rattle.format.specs.Answer.{unchanged_in, change_in, setting_in, number_of, straightened_of}
+use Rattle.format.specs.Answered.{lowest, judged, judged_in, work_in}
 use Rattle.format.specs.Line.{kernel_in, step_in, width_in, height_in, size_in, samples_in}
 
 -- ---- a step within its range makes shears within theirs
@@ -53,44 +59,79 @@ shears_within l e =
     rw (good_beyond (neg_ℤ (step_in l)) a, good_beyond (S (step_in l)) (sine_small (step_in l) h)) refl
 
 -- ---- the lowest number that applies
+-- the chain of tests is refused under it, and names no place
+pub judged_figures : {A : Type 0} (W H : ℕ) (s : Setting) (t : ℤ) (x : A) → Figures (lowest W H s (change_of s t)) (λ n. None) (judged W H s t x)
+unfolding judged lowest change_of
+judged_figures {A} W H s t x = by (bad_size W H) (bad_centre W H s) (beyond t) (bad_kernel s.kernel)
+  where
+    by : (p q r k : Bool)
+        → Figures (cond p 1 (cond q 3 (cond (ltb 0 (judging.number_of (refused_if r TooFar (Ok (with_shears s (neg_ℤ t) (S t)))))) 4 (cond k 5 0)))) (λ n. None)
+        (refused_if p BadSize (refused_if q BadCentre (refused_if r TooFar (refused_if k BadKernel (Ok x)))))
+    by true q r k = record { number = refl; row = refl; column = refl }
+    by false true r k = record { number = refl; row = refl; column = refl }
+    by false false true k = record { number = refl; row = refl; column = refl }
+    by false false false true = record { number = refl; row = refl; column = refl }
+    by false false false false = record { number = refl; row = refl; column = refl }
+
 module _ (l : List ℕ) where
   -- a refused step keeps the setting's kernel and centre, so its number is judged in its place
-  pub lowest_is : lowest (width_in l) (height_in l) (change_in l) ≡ number_of l
-  unfolding lowest change_in change_of number_of setting_in bad_centre
+  pub lowest_is : lowest (width_in l) (height_in l) (unchanged_in l) (change_in l) ≡ number_of l
+  unfolding lowest unchanged_in change_in change_of number_of setting_in bad_centre
   lowest_is = by (beyond (step_in l)) refl
     where
-      by : (t : Bool) → beyond (step_in l) ≡ t → lowest (width_in l) (height_in l) (change_in l) ≡ number_of l
+      by : (t : Bool) → beyond (step_in l) ≡ t → lowest (width_in l) (height_in l) (unchanged_in l) (change_in l) ≡ number_of l
       by true e = rw e refl
       by false e = rw e refl
 
-  -- the same at the numbers read from the line
-  pub number_is : {w h n : ℕ} {change : Change} → change ≡ change_in l → w ≡ width_in l → h ≡ height_in l → n ≡ lowest w h change → n ≡ number_of l
-  number_is c x y e = e ∙ rw (c, x, y) lowest_is
+  pub figures_in : {A : Type 0} (x : A) → Figures (number_of l) (λ n. None) (judged_in l x)
+  unfolding change_in
+  figures_in x = rw lowest_is at (judged_figures (width_in l) (height_in l) (unchanged_in l) (step_in l) x)
 
   -- what a line tells that no number applies to
-  pub record None : Type 0 where
+  pub record Passed : Type 0 where
     pub size : bad_size (width_in l) (height_in l) ≡ false
     pub centre : bad_centre (width_in l) (height_in l) (setting_in l) ≡ false
     pub step : beyond (step_in l) ≡ false
     pub kernel : bad_kernel (kernel_in l) ≡ false
 
-  pub none : number_of l ≡ 0 → None
+  pub none : number_of l ≡ 0 → Passed
   unfolding number_of
   none e =
       by (bad_size (width_in l) (height_in l)) (bad_centre (width_in l) (height_in l) (setting_in l)) (beyond (step_in l)) (bad_kernel (kernel_in l)) refl refl refl refl e
     where
       by : (p q r s : Bool) → bad_size (width_in l) (height_in l) ≡ p → bad_centre (width_in l) (height_in l) (setting_in l) ≡ q → beyond (step_in l) ≡ r
-          → bad_kernel (kernel_in l) ≡ s → ◌≡◌ {A = ℕ} (cond p 1 (cond q 3 (cond r 4 (cond s 5 0)))) 0 → None
+          → bad_kernel (kernel_in l) ≡ s → ◌≡◌ {A = ℕ} (cond p 1 (cond q 3 (cond r 4 (cond s 5 0)))) 0 → Passed
       by true q r s a b c d h = absurd (omega arith)
       by false true r s a b c d h = absurd (omega arith)
       by false false true s a b c d h = absurd (omega arith)
       by false false false true a b c d h = absurd (omega arith)
       by false false false false a b c d h = record { size = a; centre = b; step = c; kernel = d }
 
-  -- the setting is then the line's own
-  pub change_setting : {change : Change} → change ≡ change_in l → number_of l ≡ 0 → change.setting ≡ setting_in l
-  unfolding change_in change_of setting_in
-  change_setting c e = rw (c, (none e).step) refl
+  -- the tests then refuse nothing
+  pub none_refused : {A : Type 0} (x : A) → number_of l ≡ 0 → judged_in l x ≡ Ok x
+  unfolding judged unchanged_in setting_in bad_centre
+  none_refused x e = let n = none e in rw (n.size, n.centre, n.step, n.kernel) refl
+
+  -- what they say of one thing they say of any other
+  pub accepted_in : {A : Type 0} (x y : A) → judged_in l x ≡ Ok y → (number_of l ≡ 0) × (y ≡ x)
+  accepted_in {A} x y e =
+      let z : number_of l ≡ 0 = sym (rw e at (figures_in x).number) in
+      let same : ◌≡◌ {A = Result A Refusal} (Ok y) (Ok x) = sym e ∙ none_refused x z in
+      (z, cc)
+
+  pub refused_in : {A B : Type 0} (x : A) (y : B) (refusal : Refusal) → judged_in l x ≡ Err refusal → judged_in l y ≡ Err refusal
+  unfolding judged
+  refused_in {A} {B} x y refusal =
+      by (bad_size (width_in l) (height_in l)) (bad_centre (width_in l) (height_in l) (unchanged_in l)) (beyond (step_in l)) (bad_kernel (unchanged_in l).kernel)
+    where
+      by : (p q r k : Bool)
+          → refused_if p BadSize (refused_if q BadCentre (refused_if r TooFar (refused_if k BadKernel (Ok x)))) ≡ Err refusal
+          → refused_if p BadSize (refused_if q BadCentre (refused_if r TooFar (refused_if k BadKernel (Ok y)))) ≡ Err refusal
+      by true q r k e = cc
+      by false true r k e = cc
+      by false false true k e = cc
+      by false false false true e = cc
+      by false false false false e = absurd cc
 
 -- ---- the straightener's verdict
 -- the places lent are enough
@@ -104,7 +145,7 @@ work_enough l e = let size = size_good (none l e).size in omega (arith, size.0.1
 
 pub verdict_accepted : (l : List ℕ) (picture : List ℤ) (m k : ℕ) → number_of l ≡ 0 → size_in l ≤ length picture → size_in l ≤ m → work_in l ≤ k
     → ((k : ℕ) → k < size_in l → nat_abs (line picture k) ≤ 32767)
-    → judged (width_in l) (height_in l) (setting_in l) picture m k ≡ Accepted
+    → acceptance.judged (width_in l) (height_in l) (setting_in l) picture m k ≡ accepted
 unfolding judged_on setting_in bad_background
 verdict_accepted l picture m k e hp hm hk within =
     let n = none l e in

@@ -7,12 +7,13 @@ use borrow.Rule.Slice.PartMut.{put_mid}
 use lib.IntN.{ℤ, pos}
 use lib.ListN.{length, drop, get_or, length-append, length-map, drop_of_length-le}
 use lib.Seq.{drop-drop}
+use Rattle.std.specs.Prelude.{Ok}
 use Rattle.digits.proofs.Place.{length-places, length_digits, spelt-places}
 use Rattle.digits.specs.Digit.{places_of, hex_digits, spelt, word32}
 use Rattle.lists.proofs.Rows.{cat-length, cat_more}
 use Rattle.lists.specs.Tab.{cat}
 use Rattle.format.specs.Answer.{refusal_text, samples_text, accepted_text}
-use Rattle.format.specs.Room.{Fitted, Front, piece_at, head_places, sample_places, closed}
+use Rattle.format.specs.Room.{Written, Front, piece_at, head_places, sample_places, closed}
 use Rattle.format.proofs.Front.{front_none, front_more, front_closed, piece_part}
 
 -- the places of sample k
@@ -88,7 +89,7 @@ head_written a b c d d1 d2 d3 e1 e2 e3 =
     rw append_assoc at f3
 
 pub refusal_written : (number row column : ℕ) (d d1 d2 : List ℕ) (r : ℕ) → 11 ≤ length d → Front (head_places number row column) d d1
-    → (r ≡ 10 + 1) × (d2 ≡ closed 10 d1) → Fitted (refusal_text number row column) d d2 r
+    → (r ≡ 10 + 1) × (d2 ≡ closed 10 d1) → Written (refusal_text number row column) d d2 (Ok r)
 refusal_written number row column d d1 d2 r h f (e, k) =
     rw (e, ← spelt_refusal number row column)
     (front_closed (head_places number row column) d d1 d2 10 (length_head number row column) (omega arith) f k)
@@ -96,7 +97,7 @@ refusal_written number row column d d1 d2 r h f (e, k) =
 pub accepted_written : (n W H : ℕ) (samples : List ℤ) (d d1 d2 last d3 : List ℕ) (r : ℕ) → 14 + 8 * length samples < length d
     → Front (head_places 0 n W) d d1 → d2 ≡ piece_at 10 (places_of 4 H) d1 → last ≡ sample_places samples
     → (r ≡ 14 + 8 * length samples + 1) × (d3 ≡ closed (14 + 8 * length samples) (put_mid 14 (14 + 8 * length samples - 14) d2 last))
-    → Fitted (accepted_text n W H samples) d d3 r
+    → Written (accepted_text n W H samples) d d3 (Ok r)
 accepted_written n W H samples d d1 d2 last d3 r room f1 e2 e3 (e, k) =
     let f2 = front_more (head_places 0 n W) (places_of 4 H) d d1 d2 10 (length_head 0 n W) f1 e2 in
     let l14 : length (head_places 0 n W ++ places_of 4 H) ≡ 14 = simp (length-append, length_head, length-places) in

@@ -1,6 +1,6 @@
 -- The answer to a line: 9 alone; else the lowest of 1, 3, 4 and 5 that applies, with the step in its numeric place; else the picture
 -- straightened. Each answer ends in a line feed. Assumes nothing.
-use Rattle.std.specs.Prelude.{ℕ, zero, suc, Bool, cond, ◌&&◌, List, [], ◌∷◌, ◌++◌, eqb, ℤ, pos, neg_ℤ, length, get_or}
+use Rattle.std.specs.Prelude.{ℕ, zero, suc, Bool, cond, ◌&&◌, Result, List, [], ◌∷◌, ◌++◌, eqb, ℤ, pos, neg_ℤ, length, get_or}
 use Rattle.lists.specs.Tab.{cat}
 use Rattle.kernels.specs.Kernel.{kernel_of}
 use Rattle.passes.specs.Picture.{shear, straighten}
@@ -8,15 +8,19 @@ use Rattle.passes.specs.Count.{count}
 use Rattle.settings.specs.declared.Border.TheVariants.{Wrapped}
 use Rattle.settings.specs.declared.Setting.{Setting}
 use Rattle.refusals.specs.Tests.{bad_size, bad_kernel}
+use Rattle.refusals.specs.declared.Refusal.{Refusal}
 use Rattle.steps.specs.Step.{beyond, S, change_of}
-use Rattle.steps.specs.declared.Change.{Change}
 use Rattle.acceptance.specs.Judge.{bad_centre}
 use Rattle.digits.specs.Digit.{hex_digits, word32}
 use Rattle.format.specs.Line.{kernel_in, step_in, width_in, height_in, cx_in, cy_in, well_formed, samples_in}
 
--- a setting of the line's kernel and centre with wrapped edges, changed by its step: number 4 where the step is beyond its range
-unfoldable pub change_in : List ℕ → Change
-change_in line = change_of (record { kernel = kernel_in line; cx = cx_in line; cy = cy_in line; a = pos 0; b = pos 0; border = Wrapped }) (step_in line)
+-- a setting of the line's kernel and centre with wrapped edges, before its step; and changed by its step, refused with 4 where the step is beyond its
+-- range
+unfoldable pub unchanged_in : List ℕ → Setting
+unchanged_in line = record { kernel = kernel_in line; cx = cx_in line; cy = cy_in line; a = pos 0; b = pos 0; border = Wrapped }
+
+unfoldable pub change_in : List ℕ → Result Setting Refusal
+change_in line = change_of (unchanged_in line) (step_in line)
 
 -- the setting that a line names: step t sets A = -t and B = S(t)
 unfoldable pub setting_in : List ℕ → Setting

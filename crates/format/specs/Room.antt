@@ -1,7 +1,9 @@
 -- Text at the front of a lent buffer, and text that is written where it fits. Assumes nothing.
-use Rattle.std.specs.Prelude.{ℕ, ◌+◌, ◌≡◌, cond, List, ◌∷◌, ◌++◌, map, leb, ℤ, pos, length, take, drop, get_or}
+use Rattle.std.specs.Prelude.{ℕ, ◌+◌, ◌≡◌, cond, Result, Ok, Err, List, ◌∷◌, ◌++◌, map, leb, ℤ, pos, length, take, drop, get_or}
 use Rattle.lists.specs.Tab.{cat}
 use Rattle.digits.specs.Digit.{places_of, spelt, word32}
+use Rattle.refusals.specs.declared.Refusal.{Refusal}
+use Rattle.refusals.specs.declared.Refusal.TheVariants.{TooShort}
 
 -- what a buffer d holds after a text was written to its front, and how many bytes that was: all of the text, or nothing
 unfoldable pub fitted : List ℕ → List ℕ → List ℕ
@@ -14,6 +16,15 @@ fitted_length text d = cond (leb (length text) (length d)) (length text) 0
 pub record Fitted (text before after : List ℕ) (r : ℕ) : Type 0 where
   pub holds : after ≡ fitted text before
   pub wrote : r ≡ fitted_length text before
+
+-- 2: a buffer under the places of the text, which then stays as it was
+unfoldable pub written_of : List ℕ → List ℕ → Result ℕ Refusal
+written_of text out = cond (leb (length text) (length out)) (Ok (length text)) (Err TooShort)
+
+-- the same of a call that is refused with 2 where the text does not fit
+pub record Written (text before after : List ℕ) (r : Result ℕ Refusal) : Type 0 where
+  pub holds : after ≡ fitted text before
+  pub answer : r ≡ written_of text before
 
 -- a text stands at the front of d', and behind it d' is as d
 pub record Front (text d d' : List ℕ) : Type 0 where

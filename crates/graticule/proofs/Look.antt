@@ -13,11 +13,16 @@ use Rattle.arith.specs.Whole.{floor, round}
 use Rattle.arith.proofs.Bridge.{bridge, prod, all1}
 use Rattle.arith.proofs.Round.{round-between, round_error}
 use Rattle.arith.proofs.Machine.{lt-true, true-lt}
-use Rattle.refusals.specs.declared.Found.TheVariants.{Nothing, At}
+use Rattle.std.specs.Prelude.{Option, Some, None}
+use Rattle.refusals.specs.declared.Place.{Place}
 use Rattle.refusals.specs.Tests.{first_from}
 use Rattle.refusals.proofs.First.{nothing-first, first_is}
 use Rattle.graticule.specs.declared.Points.{Points}
 use Rattle.graticule.specs.Look.{row_at, looked_at, first_below, Below, FirstBelow, Rightward}
+
+-- what is found in row y, column x
+abbrev pub at : ℕ → ℕ → Option Place
+at y x = Some (record { row = y; column = x })
 
 -- ---- rows, computed: down the screen from (0, 0) to (3, 2), up it from (0, 2) to (2, 1), and from (0, 0) to (2, 1). A half goes down: 3/2 to row 2, 1/2 to row 1
 abbrev down : Points
@@ -41,12 +46,12 @@ small = pos 9 ∷ pos 8 ∷ pos 7 ∷ pos 6 ∷ pos 5 ∷ negsuc 0 ∷ pos 5 ∷
 
 -- the line looks at 9, -1, 5 and 1: below 0 the first is -1, below 10 and below the largest number of 32 bits it is 9, and below the smallest there is none
 found_down :
-    map (λ (t : ℤ). first_below 4 down t small) (pos 0 ∷ pos 10 ∷ pos 2147483647 ∷ negsuc 2147483647 ∷ []) ≡ At 1 1 ∷ At 0 0 ∷ At 0 0 ∷ Nothing ∷ []
+    map (λ (t : ℤ). first_below 4 down t small) (pos 0 ∷ pos 10 ∷ pos 2147483647 ∷ negsuc 2147483647 ∷ []) ≡ at 1 1 ∷ at 0 0 ∷ at 0 0 ∷ None ∷ []
 unfolding first_below first_from row_at floor
 found_down = refl
 
 -- from (1, 2) to (3, 2) it looks at 9, 9 and 1: the last, in the column of x2, is below 2 and not below 1
-found_across : map (λ (t : ℤ). first_below 4 (record { x1 = 1; y1 = 2; x2 = 3; y2 = 2 }) t small) (pos 2 ∷ pos 1 ∷ []) ≡ At 2 3 ∷ Nothing ∷ []
+found_across : map (λ (t : ℤ). first_below 4 (record { x1 = 1; y1 = 2; x2 = 3; y2 = 2 }) t small) (pos 2 ∷ pos 1 ∷ []) ≡ at 2 3 ∷ None ∷ []
 unfolding first_below first_from row_at floor
 found_across = refl
 
@@ -133,12 +138,12 @@ module _ (width : ℕ) (p : Points) (threshold : ℤ) (picture : List ℤ) (poin
   count = suc p.x2 - p.x1
 
   -- ---- as the search finds it
-  pub none_found : ((j : ℕ) → p.x1 ≤ j → j ≤ p.x2 → is_below j ≡ false) → first_below width p threshold picture ≡ Nothing
+  pub none_found : ((j : ℕ) → p.x1 ≤ j → j ≤ p.x2 → is_below j ≡ false) → first_below width p threshold picture ≡ None
   unfolding first_below
   none_found h = (nothing-first is_below rows columns p.x1 count).1 (λ j a b. h j a (omega arith))
 
   pub one_found : (y x : ℕ) → p.x1 ≤ x → x ≤ p.x2 → ((j : ℕ) → p.x1 ≤ j → j < x → is_below j ≡ false) → is_below x ≡ true → pos y ≡ row_at p x
-      → first_below width p threshold picture ≡ At y x
+      → first_below width p threshold picture ≡ at y x
   unfolding first_below
   one_found y x from to earlier here row =
       (first_is is_below rows columns p.x1 count y x).1
@@ -146,7 +151,7 @@ module _ (width : ℕ) (p : Points) (threshold : ℤ) (picture : List ℤ) (poin
 
   -- ---- and what that says
   -- nothing just where no looked-at sample is below the threshold
-  pub nothing_below : first_below width p threshold picture ≡ Nothing ↔ ((x : ℕ) → ¬ Below width p threshold picture x)
+  pub nothing_below : first_below width p threshold picture ≡ None ↔ ((x : ℕ) → ¬ Below width p threshold picture x)
   unfolding first_below
   nothing_below = (
     λ e x b. true≢false (sym (true-lt _ _ b.below) ∙ (nothing-first is_below rows columns p.x1 count).0 e x b.from (omega (arith, b.to, b.from))),
@@ -158,7 +163,7 @@ module _ (width : ℕ) (p : Points) (threshold : ℤ) (picture : List ℤ) (poin
       by j a l false e none = e
 
   -- a row and a column that are found hold the first that is
-  pub found_is_first : (height y x : ℕ) → max p.y1 p.y2 < height → p.x2 < width → first_below width p threshold picture ≡ At y x
+  pub found_is_first : (height y x : ℕ) → max p.y1 p.y2 < height → p.x2 < width → first_below width p threshold picture ≡ at y x
       → FirstBelow width height p threshold picture y x
   unfolding first_below
   found_is_first height y x high wide e =

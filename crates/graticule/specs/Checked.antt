@@ -1,15 +1,13 @@
 -- What levelling with a picture answers: the plain call's step, or the first number that applies, in the order 1, 2, 6, 7, 8, 15. Assumes nothing.
-use Rattle.std.specs.Prelude.{ℕ, ◌≡◌, cond, List, eqb, ℤ, pos, nat_abs, ◌-ℤ◌, length}
-use Rattle.refusals.specs.declared.Found.{Found}
-use Rattle.refusals.specs.declared.Verdict.{Verdict}
-use Rattle.refusals.specs.declared.Verdict.TheVariants.{Accepted}
+use Rattle.std.specs.Prelude.{ℕ, ◌≡◌, cond, Option, Result, Ok, Err, List, eqb, ℤ, pos, nat_abs, ◌-ℤ◌, length}
+use Rattle.refusals.specs.declared.Place.{Place}
+use Rattle.refusals.specs.declared.Refusal.{Refusal}
+use Rattle.refusals.specs.declared.Refusal.TheVariants.{Outside, TooSteep, BelowThreshold}
 use Rattle.refusals.specs.Tests.{first_bad}
-use Rattle.refusals.specs.Judging.{refused_if, of_found, and_then, number_of, row_of, column_of, when_accepted, is_found, Figures, under_six}
+use Rattle.refusals.specs.Judging.{Verdict, accepted, refused_if, of_found, and_then, answer_by, number_of, row_of, column_of, is_found, Figures, under_six}
 use Rattle.readings.specs.Answers.{range, judged, lowest}
 use Rattle.levelling.specs.Level.{largest_side, any_outside, steep, levelling, level_of, Levels}
-use Rattle.levelling.specs.declared.Levelled.TheVariants.{Step}
 use Rattle.graticule.specs.declared.Points.{Points}
-use Rattle.graticule.specs.declared.Checked.{Checked}
 use Rattle.graticule.specs.Look.{first_below, Below, FirstBelow}
 
 -- two points as natural numbers: inside a picture no coordinate is negative
@@ -18,7 +16,7 @@ points_of x1 y1 x2 y2 = record { x1 = nat_abs x1; y1 = nat_abs y1; x2 = nat_abs 
 
 -- 7 and 8 of two points in a picture
 unfoldable pub judged_points : ℕ → ℕ → ℤ → ℤ → ℤ → ℤ → Verdict
-judged_points width height x1 y1 x2 y2 = refused_if (any_outside width height x1 y1 x2 y2) 7 (refused_if (steep (x2 -ℤ x1) (y2 -ℤ y1)) 8 Accepted)
+judged_points width height x1 y1 x2 y2 = refused_if (any_outside width height x1 y1 x2 y2) Outside (refused_if (steep (x2 -ℤ x1) (y2 -ℤ y1)) TooSteep accepted)
 
 -- every number but 15: those of a call that lends a picture, and then those of the points
 unfoldable pub judged_others : ℕ → ℕ → ℤ → ℤ → ℤ → ℤ → List ℤ → Verdict
@@ -27,16 +25,17 @@ judged_others width height x1 y1 x2 y2 picture = and_then (judged width height (
 -- 15, last of all: a sample on the line below the threshold, the first by its row and column
 unfoldable pub judged_line : ℕ → ℕ → ℤ → ℤ → ℤ → ℤ → ℤ → List ℤ → Verdict
 judged_line width height x1 y1 x2 y2 threshold picture =
-    and_then (judged_others width height x1 y1 x2 y2 picture) (of_found 15 (first_below width (points_of x1 y1 x2 y2) threshold picture))
-
--- an answer by its verdict: refused, the step is 0
-abbrev pub checked_by : Verdict → ℤ → Checked
-checked_by verdict t = record { verdict = verdict; step = when_accepted verdict t (pos 0) }
+    and_then (judged_others width height x1 y1 x2 y2 picture) (of_found BelowThreshold (first_below width (points_of x1 y1 x2 y2) threshold picture))
 
 -- the full answer
-unfoldable pub checked_of : ℕ → ℕ → ℤ → ℤ → ℤ → ℤ → ℤ → List ℤ → Checked
+unfoldable pub checked_of : ℕ → ℕ → ℤ → ℤ → ℤ → ℤ → ℤ → List ℤ → Result ℤ Refusal
 checked_of width height x1 y1 x2 y2 threshold picture =
-    checked_by (judged_line width height x1 y1 x2 y2 threshold picture) (levelling (x2 -ℤ x1) (y2 -ℤ y1))
+    answer_by (judged_line width height x1 y1 x2 y2 threshold picture) (levelling (x2 -ℤ x1) (y2 -ℤ y1))
+
+-- the step of an answer, 0 where it is refused
+abbrev pub step_of : Result ℤ Refusal → ℤ
+step_of (Ok t) = t
+step_of (Err refusal) = pos 0
 
 -- ---- what the call promises
 -- the lowest number that applies
@@ -48,16 +47,16 @@ lowest_of width height x1 y1 x2 y2 threshold picture =
     (cond (is_found (first_below width (points_of x1 y1 x2 y2) threshold picture)) 15 0)))
 
 -- row and column are 0 but under 6 and 15
-abbrev pub named : Found → Found → ℕ → Found
+abbrev pub named : Option Place → Option Place → ℕ → Option Place
 named bad below number = cond (eqb number 15) below (under_six bad number)
 
 -- r is the answer. Where no other number applies it is refused just where some looked-at sample is below the threshold, and then names the first such column
 -- with its row; otherwise it has the plain call's step, the one with the smallest miss
-pub record LevelChecked (width height : ℕ) (x1 y1 x2 y2 threshold : ℤ) (picture : List ℤ) (r : Checked) : Type 0 where
+pub record LevelChecked (width height : ℕ) (x1 y1 x2 y2 threshold : ℤ) (picture : List ℤ) (r : Result ℤ Refusal) : Type 0 where
   pub answer : r ≡ checked_of width height x1 y1 x2 y2 threshold picture
-  pub figures : Figures (lowest_of width height x1 y1 x2 y2 threshold picture) (named (first_bad range width height picture) (first_below width (points_of x1 y1 x2 y2) threshold picture)) r.verdict
-  pub below : judged_others width height x1 y1 x2 y2 picture ≡ Accepted → (x : ℕ) → Below width (points_of x1 y1 x2 y2) threshold picture x → number_of r.verdict ≡ 15
-  pub first : number_of r.verdict ≡ 15 → FirstBelow width height (points_of x1 y1 x2 y2) threshold picture (row_of r.verdict) (column_of r.verdict)
-  pub plain : number_of r.verdict ≡ 0 → level_of largest_side largest_side x1 y1 x2 y2 ≡ Step r.step
-  pub levels : number_of r.verdict ≡ 0 → Levels (x2 -ℤ x1) (y2 -ℤ y1) r.step
-  pub refused : ¬ (number_of r.verdict ≡ 0) → r.step ≡ pos 0
+  pub figures : Figures (lowest_of width height x1 y1 x2 y2 threshold picture) (named (first_bad range width height picture) (first_below width (points_of x1 y1 x2 y2) threshold picture)) r
+  pub below : judged_others width height x1 y1 x2 y2 picture ≡ accepted → (x : ℕ) → Below width (points_of x1 y1 x2 y2) threshold picture x → number_of r ≡ 15
+  pub first : number_of r ≡ 15 → FirstBelow width height (points_of x1 y1 x2 y2) threshold picture (row_of r) (column_of r)
+  pub plain : number_of r ≡ 0 → level_of largest_side largest_side x1 y1 x2 y2 ≡ Ok (step_of r)
+  pub levels : number_of r ≡ 0 → Levels (x2 -ℤ x1) (y2 -ℤ y1) (step_of r)
+  pub refused : ¬ (number_of r ≡ 0) → step_of r ≡ pos 0

@@ -1,8 +1,8 @@
 -- "In every column from x1 to x2 it looks at row (2(y1·dx + dy·(x - x1)) + dx)/(2·dx), rounded down." Assumes nothing.
-use Rattle.std.specs.Prelude.{ℕ, suc, ◌+◌, ◌*◌, ◌-◌, ◌≤◌, ◌<◌, max, ◌≡◌, List, ℤ, pos, nat_abs, ◌+ℤ◌, ◌-ℤ◌, ◌*ℤ◌, ◌<ℤ◌}
+use Rattle.std.specs.Prelude.{ℕ, suc, ◌+◌, ◌*◌, ◌-◌, ◌≤◌, ◌<◌, max, ◌≡◌, Option, List, ℤ, pos, nat_abs, ◌+ℤ◌, ◌-ℤ◌, ◌*ℤ◌, ◌<ℤ◌}
 use Rattle.std.specs.Int.Signed.{lt_z}
 use Rattle.arith.specs.Whole.{floor}
-use Rattle.refusals.specs.declared.Found.{Found}
+use Rattle.refusals.specs.declared.Place.{Place}
 use Rattle.refusals.specs.Tests.{first_from}
 use Rattle.readings.specs.Answers.{sample_at}
 use Rattle.levelling.specs.Level.{largest_side}
@@ -20,7 +20,7 @@ abbrev pub looked_at : ℕ → Points → List ℤ → ℕ → ℤ
 looked_at width p picture x = sample_at width x (nat_abs (row_at p x)) picture
 
 -- the first column from x1 to x2 whose sample is below the threshold, with its row
-unfoldable pub first_below : ℕ → Points → ℤ → List ℤ → Found
+unfoldable pub first_below : ℕ → Points → ℤ → List ℤ → Option Place
 first_below width p threshold picture =
     first_from (λ x. lt_z (looked_at width p picture x) threshold) (λ x. nat_abs (row_at p x)) (λ x. x) p.x1 (suc p.x2 - p.x1)
 

@@ -5,10 +5,9 @@
 ghost use Rattle.std.specs.Prelude.{◌≡◌, ◌≤◌, length, pos, ◌≤ℤ◌};
 ghost use Rattle.refusals.specs.Judging.{of_found};
 ghost use Rattle.graticule.specs.Look.{row_at, first_below, Rightward, Lie};
-ghost use Rattle.graticule.specs.Checked.{points_of, checked_by, LevelChecked};
+ghost use Rattle.graticule.specs.Checked.{points_of, LevelChecked};
 
-use levelling::Levelled;
-use refusals::{Found, Verdict};
+use refusals::{Place, Refusal};
 
 // Two points inside a picture, by column and row.
 #[derive(Clone, Copy)]
@@ -17,13 +16,6 @@ struct Points {
     y1: usize,
     x2: usize,
     y2: usize,
-}
-
-// What the call answers: the step, 0 where it is refused.
-#[derive(Clone, Copy)]
-pub struct Checked {
-    pub verdict: Verdict,
-    pub step: i32,
 }
 
 // The row nearest to the line in column x, of two as near the lower on the screen. It is a mean of the points' rows, so that nothing is negative.
@@ -37,43 +29,27 @@ fn row_at(points: Points, x: usize) -> usize
 }
 
 // The first column from x1 to x2 whose sample on the line is below the threshold, with its row.
-fn first_below(picture: &[i32], width: usize, points: Points, threshold: i32) -> Found
+fn first_below(picture: &[i32], width: usize, points: Points, threshold: i32) -> Option<Place>
     requires { Lie width (length picture.now) points }
     ensures { result ≡ first_below width points threshold picture.now }
 {
-    let mut found = false;
-    let mut row: usize = 0;
-    let mut column = points.x1;
-    'columns: while column <= points.x2 {
-        row = row_at(points, column);
+    for column in points.x1..=points.x2 {
+        let row = row_at(points, column);
         if picture[row * width + column] < threshold {
-            found = true;
-            break 'columns;
+            return Some(Place { row, column });
         }
-        column += 1;
     }
-    if found {
-        Found::At(row, column)
-    } else {
-        Found::Nothing
-    }
+    None
 }
 
-// Number 15, of points that passed the others; t is their step.
-fn check_line(picture: &[i32], width: usize, points: Points, threshold: i32, t: i32) -> Checked
+// Number 15, of points that passed the others.
+fn judge_line(picture: &[i32], width: usize, points: Points, threshold: i32) -> Result<(), Refusal>
     requires { Lie width (length picture.now) points }
-    ensures { result ≡ checked_by (of_found 15 (first_below width points threshold picture.now)) t }
+    ensures { result ≡ of_found Refusal.BelowThreshold (first_below width points threshold picture.now) }
 {
-    let found = first_below(picture, width, points, threshold);
-    match found {
-        Found::Nothing => Checked {
-            verdict: Verdict::Accepted,
-            step: t,
-        },
-        Found::At(row, column) => Checked {
-            verdict: Verdict::Refused(15, row, column),
-            step: 0,
-        },
+    match first_below(picture, width, points, threshold) {
+        None => Ok(()),
+        Some(place) => Err(Refusal::BelowThreshold(place)),
     }
 }
 
@@ -102,24 +78,11 @@ pub fn level_checked(
     y2: i32,
     threshold: i32,
     picture: &[i32],
-) -> Checked
+) -> Result<i32, Refusal>
     ensures { LevelChecked width height x1 y1 x2 y2 threshold picture.now result }
 {
-    let verdict = readings::judge(width, height, picture.len(), picture);
-    match verdict {
-        Verdict::Refused(_, _, _) => Checked { verdict, step: 0 },
-        Verdict::Accepted => {
-            let levelled = levelling::level_within(width, height, x1, y1, x2, y2);
-            match levelled {
-                Levelled::Refused(number) => Checked {
-                    verdict: Verdict::Refused(number, 0, 0),
-                    step: 0,
-                },
-                Levelled::Step(t) => {
-                    let points = points_of(x1, y1, x2, y2);
-                    check_line(picture, width, points, threshold, t)
-                }
-            }
-        }
-    }
+    readings::judge(width, height, picture.len(), picture)?;
+    let step = levelling::level_within(width, height, x1, y1, x2, y2)?;
+    judge_line(picture, width, points_of(x1, y1, x2, y2), threshold)?;
+    Ok(step)
 }

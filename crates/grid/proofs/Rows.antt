@@ -13,7 +13,7 @@ use lib.IntN.{ℤ, pos}
 use Rattle.lists.specs.Tab.{cat}
 use Rattle.lists.specs.Line.{wrap, line, rolled}
 use Rattle.lists.specs.Grid.{line_of, row_of}
-use Rattle.lists.proofs.Rows.{row_in, row_length, row_at, cat-length, cat_more, cat_at}
+use Rattle.lists.proofs.Rows.{row_in, row_length, row_part, row_at, cat-length, cat_more, cat_at}
 use Rattle.lists.proofs.Tab.{tab_at}
 use Rattle.lists.proofs.Part.{part_before, part_in}
 use Rattle.lists.proofs.Grid.{line_of_at, line_of-length}
@@ -45,6 +45,10 @@ module _ (n : ℕ) (work : List ℤ) (room : 4 * n ≤ length work) where
   pub rolled_at : (i r k : ℕ) → i < 4 → k < n → get_or work (i * n + (k + r) % n) (pos 0) ≡ rolled r (row_of n work i) k
   unfolding wrap
   rolled_at i r k l h = rw (row_length n work i 4 l room) (row_at n work i ((k + r) % n) _ (mod-lt (k + r) (omega arith)) refl)
+
+-- row i as the part that is lent has a row's places
+pub part_long : (m : ℕ) (work : List ℤ) (i : ℕ) → i < 4 → 4 * m ≤ length work → length (take (i * m + m - i * m) (drop (i * m) work)) ≡ m
+part_long m work i l room = ap length (row_part m work i) ∙ row_length m work i 4 l room
 
 -- ---- four lines of a picture, laid into the rows
 module _ (at along across n : ℕ) (pic : List ℤ) where

@@ -11,7 +11,9 @@ use Rattle.arith.proofs.Bridge.{bridge, all4}
 use Rattle.arith.proofs.Laws.{nat_abs-*ℤ-≤}
 use Rattle.arith.specs.Sum.{Σ}
 use Rattle.kernels.specs.declared.FourWeights.{FourWeights}
-use Rattle.kernels.specs.Kernel.{Kernel, Linear, Keys, Spline, weight, weigh}
+use Rattle.kernels.specs.declared.Kernel.{Kernel}
+use Rattle.kernels.specs.declared.Kernel.TheVariants.{Linear, Keys, Spline}
+use Rattle.kernels.specs.Kernel.{weight, weigh}
 use Rattle.kernels.specs.Four.{four_weights, weighted_sum, Modest, largest, Weighable}
 use Rattle.kernels.proofs.Weights.{most, weights_sizes}
 

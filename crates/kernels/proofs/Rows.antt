@@ -6,7 +6,9 @@ use lib.Dec.{T, leb, leb→le}
 use lib.IntN.{ℤ, pos, nat_abs}
 use lib.Ieee.Fits.{and_l, and_r}
 use lib.ListN.{get_or}
-use Rattle.kernels.specs.Kernel.{Kernel, Linear, Keys, Spline, rows}
+use Rattle.kernels.specs.declared.Kernel.{Kernel}
+use Rattle.kernels.specs.declared.Kernel.TheVariants.{Linear, Keys, Spline}
+use Rattle.kernels.specs.Kernel.{rows}
 
 abbrev all : {A : Type 0} → (A → Bool) → List A → Bool
 all t [] = true

@@ -16,7 +16,9 @@ use Rattle.arith.specs.Sum.{Σ}
 use Rattle.arith.proofs.Sums.{Σ_cong, Σ-*ℤ}
 use Rattle.lists.specs.Line.{Line}
 use Rattle.arith.proofs.Within.{Within, size_within, Σ_within}
-use Rattle.kernels.specs.Kernel.{Kernel, Linear, Keys, Spline, norm, D³, rows, evaluate, weight, weigh}
+use Rattle.kernels.specs.declared.Kernel.{Kernel}
+use Rattle.kernels.specs.declared.Kernel.TheVariants.{Linear, Keys, Spline}
+use Rattle.kernels.specs.Kernel.{norm, D³, rows, evaluate, weight, weigh}
 
 -- Σ|w| is at most gain/4 times the sum of the weights
 abbrev pub gain : Kernel → ℕ

@@ -1,7 +1,8 @@
 -- A line's four weights as the code keeps them, and the sum that they weigh. Assumes nothing.
 use Rattle.std.specs.Prelude.{ℕ, ◌+◌, ◌≤◌, List, [], ℤ, nat_abs, ◌+ℤ◌, ◌*ℤ◌, get_or}
 use Rattle.kernels.specs.declared.FourWeights.{FourWeights}
-use Rattle.kernels.specs.Kernel.{Kernel, rows, evaluate}
+use Rattle.kernels.specs.declared.Kernel.{Kernel}
+use Rattle.kernels.specs.Kernel.{rows, evaluate}
 
 -- the weights that four rows give at f
 abbrev pub four_of : List (List ℤ) → ℤ → FourWeights

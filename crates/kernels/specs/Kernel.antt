@@ -1,11 +1,19 @@
 -- The kernels: four rows of four whole numbers each, and the weight that a row gives at f. Assumes nothing.
-use Rattle.std.specs.Prelude.{List, [], ◌∷◌, ℕ, zero, suc, ℤ, pos, negsuc, ◌+ℤ◌, ◌*ℤ◌, get_or}
+use Rattle.std.specs.Prelude.{Result, Ok, Err, List, [], ◌∷◌, ℕ, zero, suc, ℤ, pos, negsuc, ◌+ℤ◌, ◌*ℤ◌, get_or}
 use Rattle.arith.specs.Sum.{Σ}
+use Rattle.refusals.specs.declared.Refusal.{Refusal}
+use Rattle.refusals.specs.declared.Refusal.TheVariants.{BadKernel}
+use Rattle.kernels.specs.declared.Kernel.{Kernel}
+use Rattle.kernels.specs.declared.Kernel.TheVariants.{Linear, Keys, Spline}
 
-pub data Kernel : Type 0 where
-  Linear Keys Spline : Kernel
+-- a caller's number for a kernel: 0 linear, 1 Keys, 2 cubic spline, and number 5 for every other
+abbrev pub kernel_at : ℕ → Result Kernel Refusal
+kernel_at zero = Ok Linear
+kernel_at (suc zero) = Ok Keys
+kernel_at (suc (suc zero)) = Ok Spline
+kernel_at (suc (suc (suc n))) = Err BadKernel
 
--- 0 linear, 1 Keys, 2 cubic spline; a call refuses every other number before it asks
+-- the kernel of a number that is not refused
 abbrev pub kernel_of : ℕ → Kernel
 kernel_of zero = Linear
 kernel_of (suc zero) = Keys

@@ -1,10 +1,35 @@
-// The kernels' weights. A kernel is 0 linear, 1 Keys or 2 cubic spline; f is the fraction of a sample, in parts of D = 4,096; a kernel's
-// four weights sum to 1, 2 or 6 times D³.
+// The kernels and their weights: f is the fraction of a sample, in parts of D = 4,096; a kernel's four weights sum to 1, 2 or 6 times D³.
 #![tactic(auto)]
 
 ghost use Rattle.std.specs.Prelude.{◌≡◌, [], ℕ, ◌≤◌, get_or, pos, nat_abs};
-ghost use Rattle.kernels.specs.Kernel.{kernel_of, evaluate};
+ghost use Rattle.kernels.specs.Kernel.{kernel_at, evaluate};
 ghost use Rattle.kernels.specs.Four.{four_of, four_weights, weighted_sum, Modest, Weighable};
+
+use refusals::Refusal;
+
+// How a moved line is weighed: by linear interpolation, by Keys' cubic convolution, or by a cubic spline.
+#[derive(Clone, Copy, PartialEq, Eq)]
+pub enum Kernel {
+    Linear,
+    Keys,
+    Spline,
+}
+
+// A caller's number for a kernel; number 5 for every other number.
+impl TryFrom<u32> for Kernel {
+    type Error = Refusal;
+
+    ghost try_from_gives = { λ number result. result ≡ kernel_at number };
+
+    fn try_from(number: u32) -> Result<Kernel, Refusal> {
+        match number {
+            0 => Ok(Kernel::Linear),
+            1 => Ok(Kernel::Keys),
+            2 => Ok(Kernel::Spline),
+            _ => Err(Refusal::BadKernel),
+        }
+    }
+}
 
 // Each kernel's rows: for each of the four source places the numbers a, b, c, e of its weight. They stand apart so that the compiler folds
 // a kernel's weights; one array of all three would be copied for every line.
@@ -47,17 +72,15 @@ fn weights_of(rows: [[i64; 4]; 4], f: i64) -> FourWeights
 }
 
 // A kernel's four weights at f.
-pub fn four_weights(kernel: u32, f: i64) -> FourWeights
-    requires { (kernel ≤ 2) × (nat_abs f ≤ 4096) }
-    ensures { result ≡ four_weights (kernel_of kernel) f }
+pub fn four_weights(kernel: Kernel, f: i64) -> FourWeights
+    requires { nat_abs f ≤ 4096 }
+    ensures { result ≡ four_weights kernel f }
 {
-    if kernel == 0 {
-        return weights_of(LINEAR, f);
+    match kernel {
+        Kernel::Linear => weights_of(LINEAR, f),
+        Kernel::Keys => weights_of(KEYS, f),
+        Kernel::Spline => weights_of(SPLINE, f),
     }
-    if kernel == 1 {
-        return weights_of(KEYS, f);
-    }
-    weights_of(SPLINE, f)
 }
 
 // The weighted sum of four samples or coefficients. It fits since the weights' sizes together are at most 6·D³; four bounds on the single

@@ -1,21 +1,22 @@
 -- What the tests of levelling tell, and the answers that follow. Assumes nothing.
-use Prim.Native.Nat.{ℕ, zero, suc, ◌≤◌}
-use mathlib.Core.Path.{◌≡◌, refl, sym, ap, ◌∙◌, subst}
-use mathlib.Core.Bool.{Bool, true, false, cond, ◌||◌, or_assoc, or_self, or-true, or-false}
+use Prim.Native.Nat.{ℕ, ◌≤◌}
+use mathlib.Core.Path.{◌≡◌, refl, sym, ◌∙◌, subst}
+use mathlib.Core.Bool.{Bool, true, false, cond}
 use mathlib.Core.List.{[], ◌∷◌, map}
 use native.Mathlib.Omega.{arith}
-use lib.Dec.{ltb}
-use lib.IntN.{ℤ, pos, negsuc, neg_ℤ, nat_abs, ◌+ℤ◌, ◌-ℤ◌, +ℤ_idl}
+use lib.IntN.{ℤ, pos, negsuc, nat_abs, ◌+ℤ◌, ◌-ℤ◌}
 use lib.Signed.{le_z, lt_z, ◌≤ℤ◌, ◌<ℤ◌}
 use mir.Syntax.{w64}
 use mir.Val.{SFits}
 use Rattle.arith.proofs.Bridge.{bridge, all1, all2}
 use Rattle.arith.proofs.Machine.{lt-false, le-false, false-lt, false-le}
+use Rattle.std.specs.Prelude.{Result, Ok, Err}
+use Rattle.refusals.specs.Judging.{refused_if, number_of}
+use Rattle.refusals.specs.declared.Refusal.{Refusal}
+use Rattle.refusals.specs.declared.Refusal.TheVariants.{Outside, TooSteep}
 use Rattle.refusals.proofs.Tests.{or_false as neither}
-use Rattle.levelling.specs.Level.{largest_side, outside, any_outside, steep, levelling, direction_of, level_of, level_number, level_step, Levels, LevelAnswer}
+use Rattle.levelling.specs.Level.{largest_side, outside, any_outside, steep, levelling, direction_of, level_of, level_step, Levels, LevelAnswer}
 use Rattle.levelling.specs.Search.{Flat}
-use Rattle.levelling.specs.declared.Levelled.{Levelled}
-use Rattle.levelling.specs.declared.Levelled.TheVariants.{Step, Refused}
 use Rattle.levelling.proofs.Levelling.{levelled_least}
 
 -- ---- in a picture 4 wide and 3 high a point is outside from column 4 and from row 3 on, computed
@@ -65,20 +66,7 @@ module _ (width height : ℕ) (x1 y1 x2 y2 : ℤ) where
       let (a, b, c, d) = none_outside e in
       (wider width largest_side x1 w a, wider height largest_side y1 h b, wider width largest_side x2 w c, wider height largest_side y2 h d)
 
--- ---- number 8: |y| is above x where y or -y is
-size_above : (x y : ℤ) → (lt_z x y || lt_z x (neg_ℤ y)) ≡ lt_z x (pos (nat_abs y))
-size_above (pos m) (pos zero) = or_self _
-size_above (pos m) (pos (suc n)) = or-false _
-size_above (negsuc m) (pos n) = refl
-size_above (pos m) (negsuc n) = refl
-size_above (negsuc m) (negsuc n) = or-true (ltb n m)
-
-pub steep_tests : (dx dy : ℤ) → (lt_z dx (pos 1) || lt_z dx dy || lt_z dx (pos 0 -ℤ dy)) ≡ steep dx dy
-unfolding steep
-steep_tests dx dy =
-    or_assoc (lt_z dx (pos 1)) (lt_z dx dy) _
-    ∙ ap (λ (b : Bool). lt_z dx (pos 1) || b) (ap (λ (z : ℤ). lt_z dx dy || lt_z dx z) (+ℤ_idl (neg_ℤ dy)) ∙ size_above dx dy)
-
+-- ---- number 8
 pub flat : (dx dy : ℤ) → nat_abs dx ≤ 1023 → steep dx dy ≡ false → Flat dx dy
 unfolding steep
 flat dx dy h e =
@@ -98,20 +86,20 @@ module _ (width height : ℕ) (x1 y1 x2 y2 : ℤ) where
       let eight = steep (x2 -ℤ x1) (y2 -ℤ y1) in
       record { answer = refl; number = number seven eight; step = step seven eight }
     where
-      by : Bool → Bool → Levelled
-      by seven eight = cond seven (Refused 7) (cond eight (Refused 8) (Step (levelling (x2 -ℤ x1) (y2 -ℤ y1))))
+      by : Bool → Bool → Result ℤ Refusal
+      by seven eight = refused_if seven Outside (refused_if eight TooSteep (Ok (levelling (x2 -ℤ x1) (y2 -ℤ y1))))
 
-      number : (seven eight : Bool) → level_number (by seven eight) ≡ cond seven 7 (cond eight 8 0)
+      number : (seven eight : Bool) → number_of (by seven eight) ≡ cond seven 7 (cond eight 8 0)
       number true eight = refl
       number false true = refl
       number false false = refl
 
-      step : (seven eight : Bool) → level_number (by seven eight) ≡ 0 → Levels (x2 -ℤ x1) (y2 -ℤ y1) (level_step (by seven eight))
+      step : (seven eight : Bool) → number_of (by seven eight) ≡ 0 → Levels (x2 -ℤ x1) (y2 -ℤ y1) (level_step (by seven eight))
       step true eight e = absurd (omega arith)
       step false true e = absurd (omega arith)
       step false false e = levelled_least (x2 -ℤ x1) (y2 -ℤ y1)
 
-  is_outside : any_outside width height x1 y1 x2 y2 ≡ true → level_of width height x1 y1 x2 y2 ≡ Refused 7
+  is_outside : any_outside width height x1 y1 x2 y2 ≡ true → level_of width height x1 y1 x2 y2 ≡ Err Outside
   unfolding level_of
   is_outside e = rw e refl
 
@@ -119,10 +107,10 @@ module _ (width height : ℕ) (x1 y1 x2 y2 : ℤ) where
   unfolding level_of
   is_inside e = rw e refl
 
-  pub answer-outside : any_outside width height x1 y1 x2 y2 ≡ true → LevelAnswer width height x1 y1 x2 y2 (Refused 7)
+  pub answer-outside : any_outside width height x1 y1 x2 y2 ≡ true → LevelAnswer width height x1 y1 x2 y2 (Err Outside)
   answer-outside e = subst (LevelAnswer width height x1 y1 x2 y2) (is_outside e) answered
 
-  pub answer_inside : {r : Levelled} → any_outside width height x1 y1 x2 y2 ≡ false → r ≡ direction_of (x2 -ℤ x1) (y2 -ℤ y1) → LevelAnswer width height x1 y1 x2 y2 r
+  pub answer_inside : {r : Result ℤ Refusal} → any_outside width height x1 y1 x2 y2 ≡ false → r ≡ direction_of (x2 -ℤ x1) (y2 -ℤ y1) → LevelAnswer width height x1 y1 x2 y2 r
   answer_inside e q = subst (LevelAnswer width height x1 y1 x2 y2) (is_inside e ∙ sym q) answered
 
 -- inside a picture the plain call answers the same

@@ -1,9 +1,10 @@
 -- "Levelling takes two points on one graticule line, coordinates 0 to 1,023, with dx = x2 - x1 and dy = y2 - y1. It answers the step, from
 -- -1,697 to 1,697, with the smallest |8,192·t·dx + (4,096² - t²)·dy|; of two equal, the lower t." Assumes nothing.
-use Rattle.std.specs.Prelude.{ℕ, zero, suc, ◌*◌, ◌≤◌, ◌<◌, ◌≡◌, Bool, cond, ◌||◌, ltb, ℤ, pos, nat_abs, ◌+ℤ◌, ◌-ℤ◌, ◌*ℤ◌, ◌<ℤ◌}
+use Rattle.std.specs.Prelude.{ℕ, zero, suc, ◌*◌, ◌≤◌, ◌<◌, ◌≡◌, Bool, cond, ◌||◌, ltb, Result, Ok, Err, ℤ, pos, nat_abs, ◌+ℤ◌, ◌-ℤ◌, ◌*ℤ◌, ◌<ℤ◌}
 use Rattle.std.specs.Int.Signed.{le_z, lt_z}
-use Rattle.levelling.specs.declared.Levelled.{Levelled}
-use Rattle.levelling.specs.declared.Levelled.TheVariants.{Step, Refused}
+use Rattle.refusals.specs.Judging.{refused_if, number_of}
+use Rattle.refusals.specs.declared.Refusal.{Refusal}
+use Rattle.refusals.specs.declared.Refusal.TheVariants.{Outside, TooSteep}
 
 -- 8,192·t·dx + (4,096² - t²)·dy: by how much step t misses the line's direction
 unfoldable pub miss : ℤ → ℤ → ℤ → ℤ
@@ -49,24 +50,20 @@ any_outside width height x1 y1 x2 y2 = outside width x1 || outside height y1 || 
 unfoldable pub steep : ℤ → ℤ → Bool
 steep dx dy = lt_z dx (pos 1) || lt_z dx (pos (nat_abs dy))
 
--- the refusal number and the step of an answer
-abbrev pub level_number : Levelled → ℕ
-level_number (Step t) = 0
-level_number (Refused n) = n
-
-abbrev pub level_step : Levelled → ℤ
-level_step (Step t) = t
-level_step (Refused n) = pos 0
+-- the step of an answer, 0 where it is refused
+abbrev pub level_step : Result ℤ Refusal → ℤ
+level_step (Ok t) = t
+level_step (Err refusal) = pos 0
 
 -- the answer from the differences, and from two points: those of the plain call lie within the largest side, those of a picture within its width and height
-unfoldable pub direction_of : ℤ → ℤ → Levelled
-direction_of dx dy = cond (steep dx dy) (Refused 8) (Step (levelling dx dy))
+unfoldable pub direction_of : ℤ → ℤ → Result ℤ Refusal
+direction_of dx dy = refused_if (steep dx dy) TooSteep (Ok (levelling dx dy))
 
-unfoldable pub level_of : ℕ → ℕ → ℤ → ℤ → ℤ → ℤ → Levelled
-level_of width height x1 y1 x2 y2 = cond (any_outside width height x1 y1 x2 y2) (Refused 7) (direction_of (x2 -ℤ x1) (y2 -ℤ y1))
+unfoldable pub level_of : ℕ → ℕ → ℤ → ℤ → ℤ → ℤ → Result ℤ Refusal
+level_of width height x1 y1 x2 y2 = refused_if (any_outside width height x1 y1 x2 y2) Outside (direction_of (x2 -ℤ x1) (y2 -ℤ y1))
 
 -- what r, the answer for the points (x1, y1) and (x2, y2), is: its case, its number, and its step where none is refused
-pub record LevelAnswer (width height : ℕ) (x1 y1 x2 y2 : ℤ) (r : Levelled) : Type 0 where
+pub record LevelAnswer (width height : ℕ) (x1 y1 x2 y2 : ℤ) (r : Result ℤ Refusal) : Type 0 where
   pub answer : r ≡ level_of width height x1 y1 x2 y2
-  pub number : level_number r ≡ cond (any_outside width height x1 y1 x2 y2) 7 (cond (steep (x2 -ℤ x1) (y2 -ℤ y1)) 8 0)
-  pub step : level_number r ≡ 0 → Levels (x2 -ℤ x1) (y2 -ℤ y1) (level_step r)
+  pub number : number_of r ≡ cond (any_outside width height x1 y1 x2 y2) 7 (cond (steep (x2 -ℤ x1) (y2 -ℤ y1)) 8 0)
+  pub step : number_of r ≡ 0 → Levels (x2 -ℤ x1) (y2 -ℤ y1) (level_step r)

@@ -7,23 +7,26 @@ use Prim.Native.Nat.{ℕ}
 use lib.Dec.{lit≤}
 use lib.IntN.{ℤ, pos, negsuc}
 use lib.ListN.{replicate}
+use Rattle.std.specs.Prelude.{Result, Err}
 use Rattle.arith.specs.Whole.{floor, remainder, round, min_ℤ, max_ℤ}
 use Rattle.arith.specs.Sum.{Σ}
 use Rattle.arith.specs.Move.{fraction, whole}
 use Rattle.lists.specs.Tab.{tab}
 use Rattle.lists.specs.Line.{wrap}
 use Rattle.lists.specs.Ends.{picked}
-use Rattle.refusals.specs.declared.Verdict.{Verdict}
-use Rattle.refusals.specs.declared.Verdict.TheVariants.{Accepted, Refused}
+use Rattle.refusals.specs.declared.Refusal.{Refusal}
+use Rattle.refusals.specs.declared.Refusal.TheVariants.{BadSize, TooShort, TooFar, BadKernel, BadSample, BadBackground}
+use Rattle.refusals.specs.Judging.{Verdict, accepted, number_of, row_of, column_of}
 use Rattle.refusals.specs.Tests.{bad_side, short, bad_kernel, beyond_of, first_from, first_bad}
 use Rattle.refusals.proofs.First.{one_number_good}
 use Rattle.settings.specs.declared.Border.{Border}
 use Rattle.settings.specs.declared.Border.TheVariants.{Wrapped, Background}
-use Rattle.kernels.specs.Kernel.{weigh, Keys}
+use Rattle.kernels.specs.declared.Kernel.TheVariants.{Keys}
+use Rattle.kernels.specs.Kernel.{weigh}
 use Rattle.moves.specs.Move.{first, mixed, source, moved}
 use Rattle.moves.specs.Border.{far, gone, fraction_in, bordered, move_in, bad_background}
-use Rattle.lines.specs.declared.LineOutcome.{LineOutcome}
-use Rattle.lines.specs.Answer.{range, work_places, too_short, judged_by, judged, is_interpolated, outcome_of, number_of, row_of, column_of, count_of, smallest_of, largest_of}
+use Rattle.lines.specs.declared.Moved.{Moved}
+use Rattle.lines.specs.Answer.{range, work_places, too_short, judged_by, judged, is_interpolated, outcome_of, count_of, smallest_of, largest_of}
 
 -- the work places of lengths at both ends, and of those one past each
 asked : map work_places (1 ∷ 7 ∷ 1024 ∷ 0 ∷ 1025 ∷ []) ≡ 6 ∷ 42 ∷ 6144 ∷ 0 ∷ 0 ∷ []
@@ -38,7 +41,7 @@ abbrev verdict_of : Call → Verdict
 verdict_of (call n kernel d β line result work) = judged n kernel d β line result work
 
 -- its outcome, where it leaves `left` in the result
-abbrev outcome : Call → List ℤ → LineOutcome
+abbrev outcome : Call → List ℤ → Result Moved Refusal
 outcome (call n kernel d β line result work) left = outcome_of n kernel d β line result work left
 
 -- samples at either end of their range, and one past each
@@ -59,12 +62,12 @@ accepted_at_the_ends :
     ∷ call 2 0 (pos 1) (Background (pos 32767)) ends 2 12
     ∷ call 2 0 (pos 1) (Background (negsuc 32766)) ends 2 12
     ∷ [])
-    ≡ replicate 4 Accepted
+    ≡ replicate 4 accepted
 unfolding judged judged_by too_short bad_side short bad_kernel bad_background beyond_of first_bad first_from
 accepted_at_the_ends = refl
 
 -- computed up to number 6, which zeros do not meet
-longest_accepted : verdict_of (call 1024 1 (pos 0) Wrapped (replicate 1024 (pos 0)) 1024 6144) ≡ Accepted
+longest_accepted : verdict_of (call 1024 1 (pos 0) Wrapped (replicate 1024 (pos 0)) 1024 6144) ≡ accepted
 unfolding judged judged_by too_short bad_side short bad_kernel bad_background beyond_of
 longest_accepted = rw (one_number_good range 1024 1 1024 (pos 0) (lit≤ tt) (lit≤ tt)) refl
 
@@ -82,16 +85,16 @@ refused_past_the_ends :
     ∷ call 2 0 (pos 0) (Background (pos 32768)) ends 2 12
     ∷ call 2 0 (pos 0) (Background (negsuc 32767)) ends 2 12
     ∷ [])
-    ≡ Refused 1 0 0
-    ∷ Refused 1 0 0
-    ∷ Refused 2 0 0
-    ∷ Refused 2 0 0
-    ∷ Refused 2 0 0
-    ∷ Refused 4 0 0
-    ∷ Refused 4 0 0
-    ∷ Refused 5 0 0
-    ∷ Refused 12 0 0
-    ∷ Refused 12 0 0
+    ≡ Err BadSize
+    ∷ Err BadSize
+    ∷ Err TooShort
+    ∷ Err TooShort
+    ∷ Err TooShort
+    ∷ Err TooFar
+    ∷ Err TooFar
+    ∷ Err BadKernel
+    ∷ Err BadBackground
+    ∷ Err BadBackground
     ∷ []
 unfolding judged judged_by too_short bad_side short bad_kernel bad_background beyond_of first_bad first_from
 refused_past_the_ends = refl
@@ -99,7 +102,7 @@ refused_past_the_ends = refl
 -- the first sample past its range, above or below, in row 0, whatever comes after it; not one that is past the n samples
 first_bad_sample :
     map verdict_of (call 3 0 (pos 0) Wrapped past 3 18 ∷ call 4 0 (pos 0) Wrapped below 4 24 ∷ call 2 0 (pos 0) Wrapped below 2 12 ∷ [])
-    ≡ Refused 6 0 1 ∷ Refused 6 0 2 ∷ Accepted ∷ []
+    ≡ Err (BadSample (record { row = 0; column = 1 })) ∷ Err (BadSample (record { row = 0; column = 2 })) ∷ accepted ∷ []
 unfolding judged judged_by too_short bad_side short bad_kernel bad_background beyond_of first_bad first_from
 first_bad_sample = refl
 
@@ -112,7 +115,7 @@ first_of_two :
     ∷ call 3 3 (pos 0) (Background (pos 32768)) past 3 18
     ∷ call 3 2 (pos 0) (Background (pos 32768)) past 3 18
     ∷ [])
-    ≡ Refused 1 0 0 ∷ Refused 2 0 0 ∷ Refused 4 0 0 ∷ Refused 5 0 0 ∷ Refused 12 0 0 ∷ []
+    ≡ Err BadSize ∷ Err TooShort ∷ Err TooFar ∷ Err BadKernel ∷ Err BadBackground ∷ []
 unfolding judged judged_by too_short bad_side short bad_kernel bad_background beyond_of first_bad first_from
 first_of_two = refl
 

@@ -9,34 +9,37 @@ use lib.Dec.{ltb}
 use lib.IntN.{ℤ, pos, nat_abs, ◌+ℤ◌}
 use lib.ListN.{length, take}
 use lib.Seq.{get_or-take}
+use Rattle.std.specs.Prelude.{Result}
 use Rattle.lists.specs.Line.{line}
 use Rattle.lists.specs.Ends.{smallest, largest}
 use Rattle.lists.proofs.Ends.{smallest_plus, largest_plus}
+use Rattle.refusals.specs.declared.Refusal.{Refusal}
+use Rattle.refusals.specs.Judging.{number_of}
 use Rattle.settings.specs.declared.Border.{Border}
 use Rattle.kernels.specs.Kernel.{kernel_of}
 use Rattle.moves.specs.Range.{Raised, RaisedWithin}
 use Rattle.moves.proofs.Range.{linear_keys_add, fraction-raised, kernel_spline, kernel_not_spline}
 use Rattle.moves.proofs.Nearly.{move_in_nearly}
-use Rattle.lines.specs.declared.LineOutcome.{LineOutcome}
-use Rattle.lines.specs.Answer.{Movable, is_interpolated, outcome_of, number_of, count_of, smallest_of, largest_of, LineMoved}
+use Rattle.lines.specs.declared.Moved.{Moved}
+use Rattle.lines.specs.Answer.{Movable, is_interpolated, outcome_of, count_of, smallest_of, largest_of, LineMoved}
 use Rattle.lines.specs.Raised.{BothMoved, LineRaised}
 use Rattle.lines.proofs.Answer.{taken, was_accepted, was_movable, was_moved}
 
 -- the figures of an accepted call: the extremes of the first n samples that it left, and whether the line is interpolated
-abbrev Told : ℕ → ℤ → Border → List ℤ → LineOutcome → Type 0
+abbrev Told : ℕ → ℤ → Border → List ℤ → Result Moved Refusal → Type 0
 Told n d β result' r = (smallest_of r ≡ smallest (line result') n) × (largest_of r ≡ largest (line result') n) × (count_of r ≡ cond (is_interpolated β n d) 1 0)
 
 -- ---- what a call that answers number 0 told
-module _ {n kernel : ℕ} {d : ℤ} {β : Border} {line₁ result work result' work' : List ℤ} {r : LineOutcome}
+module _ {n kernel : ℕ} {d : ℤ} {β : Border} {line₁ result work result' work' : List ℤ} {r : Result Moved Refusal}
     (a : LineMoved n kernel d β line₁ result work result' work' r) (zero : number_of r ≡ 0) where
   was_told : Told n d β result' r
   unfolding outcome_of
   was_told = rw (a.outcome, was_accepted a zero) (refl, refl, refl)
 
 -- ---- two of them
-module _ {c : ℤ} {n kernel : ℕ} {d : ℤ} {β : Border} {line₁ result work result' work' : List ℤ} {r : LineOutcome} {line₂ result₂ work₂ result₂' work₂' : List ℤ} {r₂ : LineOutcome}
+module _ {c : ℤ} {n kernel : ℕ} {d : ℤ} {β : Border} {line₁ result work result' work' : List ℤ} {r : Result Moved Refusal} {line₂ result₂ work₂ result₂' work₂' : List ℤ} {r₂ : Result Moved Refusal}
     (both : BothMoved c n kernel d β line₁ result work result' work' r line₂ result₂ work₂ result₂' work₂' r₂) where
-  m : Movable n kernel d β line₁ (length result) (length work)
+  m : Movable n d β line₁ (length result) (length work)
   m = was_movable both.first both.first_accepted
 
   -- the samples that are moved
@@ -52,7 +55,7 @@ module _ {c : ℤ} {n kernel : ℕ} {d : ℤ} {β : Border} {line₁ result work
       ∙ ap (λ v. v +ℤ c) (sym (was_moved both.first both.first_accepted k l))
 
   -- the samples that are moved are within a line's range
-  within : {β : Border} {line₀ : List ℤ} {result work : ℕ} (m : Movable n kernel d β line₀ result work) (k : ℕ) → k < n → nat_abs (line (take n line₀) k) ≤ 294912
+  within : {β : Border} {line₀ : List ℤ} {result work : ℕ} (m : Movable n d β line₀ result work) (k : ℕ) → k < n → nat_abs (line (take n line₀) k) ≤ 294912
   within {line₀ = line₀} m k l = rw (get_or-take n line₀ k (pos 0) l) (omega (arith, m.samples k l))
 
   nearly : kernel ≡ 2 → RaisedWithin 1 c n result' result₂'

@@ -1,15 +1,17 @@
 // The call that moves one line: it judges its input, moves the line by way of a row in its work, clears its work, and looks through the result for
-// its extremes. A kernel is 0 linear, 1 Keys or 2 cubic spline; d is a move in 4,096ths of a sample.
+// its extremes. A caller's number of a kernel is 0 linear, 1 Keys or 2 cubic spline; d is a move in 4,096ths of a sample.
 #![tactic(auto)]
 
 ghost use Rattle.std.specs.Prelude.{◌≡◌, ◌++◌, ◌*◌, ◌≤◌, length, take, drop, replicate, pos};
+ghost use Rattle.refusals.specs.Judging.{answer_by};
 ghost use Rattle.kernels.specs.Kernel.{kernel_of};
 ghost use Rattle.moves.specs.Border.{move_in};
 ghost use Rattle.moves.specs.Row.{places};
 ghost use Rattle.lines.specs.Answer.{work_places, too_short, judged_by, Movable, is_interpolated, LineMoved};
 
+use kernels::Kernel;
 use lists::Extremes;
-use refusals::Verdict;
+use refusals::Refusal;
 use settings::Border;
 
 // The farthest move, in 4,096ths of a sample, and the range of samples.
@@ -17,22 +19,18 @@ const FARTHEST: i32 = 4_194_304;
 
 const RANGE: i32 = 294_912;
 
-// What moving a line answers: whether it was interpolated, and its smallest and largest output sample; or the number of the refusal with its
-// row and column.
+// What moving a line tells: whether it was interpolated, and its smallest and largest output sample.
 #[derive(Clone, Copy)]
-pub enum LineOutcome {
-    Moved(bool, Extremes),
-    Refused(u32, usize, usize),
+pub struct Moved {
+    pub interpolated: bool,
+    pub extremes: Extremes,
 }
 
 // The work places that a line of n samples takes; 0 for a length that number 1 refuses.
 pub fn work_places(n: usize) -> usize
     ensures { result ≡ work_places n }
 {
-    if refusals::bad_side(n) {
-        return 0;
-    }
-    6 * n
+    if refusals::bad_side(n) { 0 } else { 6 * n }
 }
 
 // Whether the shortest of the buffers that hold a line has under n places, or the work under 6n.
@@ -40,107 +38,78 @@ fn too_short(n: usize, held: usize, work: usize) -> bool
     requires { n ≤ 1024 }
     ensures { result ≡ too_short n held work }
 {
-    if held < n {
-        return true;
-    }
-    work < 6 * n
+    held < n || work < 6 * n
 }
 
-// Numbers 1, 2, 4, 5, the call's `own` where it applies, and 6. The shortest of the buffers that hold a line has `held` places, the work `work`.
+// Numbers 1, 2, 4, 5, what the call's own test says, and 6; hands back the kernel of its number. The shortest of the buffers that hold a line has
+// `held` places, the work `work`.
 pub fn judge(
     n: usize,
     kernel: u32,
     d: i32,
-    own: u32,
-    applies: bool,
+    own: Result<(), Refusal>,
     line: &[i32],
     held: usize,
     work: usize,
-) -> Verdict
+) -> Result<Kernel, Refusal>
     requires { held ≤ length line.now }
-    ensures { result ≡ judged_by n kernel d own applies line.now held work }
+    ensures { result ≡ answer_by (judged_by n kernel d own line.now held work) (kernel_of kernel) }
 {
     if refusals::bad_side(n) {
-        return Verdict::Refused(1, 0, 0);
+        return Err(Refusal::BadSize);
     }
     if too_short(n, held, work) {
-        return Verdict::Refused(2, 0, 0);
+        return Err(Refusal::TooShort);
     }
     if refusals::beyond(d, FARTHEST) {
-        return Verdict::Refused(4, 0, 0);
+        return Err(Refusal::TooFar);
     }
-    if 2 < kernel {
-        return Verdict::Refused(5, 0, 0);
-    }
-    if applies {
-        return Verdict::Refused(own, 0, 0);
-    }
-    refusals::scanned(line, n, 1, RANGE)
+    let known = Kernel::try_from(kernel)?;
+    own?;
+    refusals::scanned(line, n, 1, RANGE)?;
+    Ok(known)
 }
 
-// An accepted line moved by way of `row`; says whether it was interpolated.
-fn move_by(
+// The move of an accepted line of n samples.
+#[derive(Clone, Copy)]
+struct Move {
     n: usize,
-    kernel: u32,
+    kernel: Kernel,
     d: i32,
     border: Border,
-    line: &[i32],
-    res: &mut [i32],
-    row: &mut [i32],
-) -> bool
-    requires movable { Movable n kernel d border line.now (length res.old) (6 * n) }
-    requires row_len { length row.old ≡ places border n }
-    ensures value { result ≡ is_interpolated border n d }
-    ensures res_after { res.new ≡ move_in border (kernel_of kernel) d (take n line.now) ++ drop n res.old }
-{
-    let move_made = rows::held_of(border, n, arith::wide(d));
-    let f = arith::fraction_part(move_made);
-    let start = rows::start_of(border, move_made, n);
-    let window = rows::window_of(border, n, start);
-    let loaded = rows::loaded_of(kernel, row.len(), window);
-    rows::set_in(border, line, 0, 1, row, n, loaded);
-    rows::treat(row, kernel, f, window);
-    lists::store_line(res, 0, 1, row, start, n);
-    0 < f
 }
 
-// An accepted line moved by d; says whether it was interpolated.
-fn move_accepted(
-    n: usize,
-    kernel: u32,
-    d: i32,
-    border: Border,
-    line: &[i32],
-    res: &mut [i32],
-    work: &mut [i32],
-) -> bool
-    requires { Movable n kernel d border line.now (length res.old) (length work.old) }
-    ensures value { result ≡ is_interpolated border n d }
-    ensures res_after { res.new ≡ move_in border (kernel_of kernel) d (take n line.now) ++ drop n res.old }
-    ensures work_unchanged { drop (6 * n) work.new ≡ drop (6 * n) work.old }
-{
-    let m = rows::places_of(border, n);
-    move_by(n, kernel, d, border, line, res, &mut work[..m])
-}
+impl Move {
+    // Makes it by way of `row`; says whether the line was interpolated.
+    fn make_in(self, line: &[i32], res: &mut [i32], row: &mut [i32]) -> bool
+        requires movable { Movable self.n self.d self.border line.now (length res.old) (6 * self.n) }
+        requires row_len { length row.old ≡ places self.border self.n }
+        ensures value { result ≡ is_interpolated self.border self.n self.d }
+        ensures res_after { res.new ≡ move_in self.border self.kernel self.d (take self.n line.now) ++ drop self.n res.old }
+    {
+        let made = rows::held_of(self.border, self.n, i64::from(self.d));
+        let f = arith::fraction_part(made);
+        let start = rows::start_of(self.border, made, self.n);
+        let window = rows::window_of(self.border, self.n, start);
+        let loaded = rows::loaded_of(self.kernel, row.len(), window);
+        rows::set_in(self.border, line, 0, 1, row, self.n, loaded);
+        rows::treat(row, self.kernel, f, window);
+        lists::store_line(res, 0, 1, row, start, self.n);
+        0 < f
+    }
 
-// The same, and the work cleared.
-fn move_cleared(
-    n: usize,
-    kernel: u32,
-    d: i32,
-    border: Border,
-    line: &[i32],
-    res: &mut [i32],
-    work: &mut [i32],
-) -> bool
-    requires { Movable n kernel d border line.now (length res.old) (length work.old) }
-    ensures value { result ≡ is_interpolated border n d }
-    ensures res_after { res.new ≡ move_in border (kernel_of kernel) d (take n line.now) ++ drop n res.old }
-    ensures work_after { work.new ≡ replicate (6 * n) (pos 0) ++ drop (6 * n) work.old }
-{
-    let interpolated = move_accepted(n, kernel, d, border, line, res, work);
-    lists::clear(work, 6 * n);
-    interpolated
+    // The same by way of the work, which is cleared.
+    fn make(self, line: &[i32], res: &mut [i32], work: &mut [i32]) -> bool
+        requires { Movable self.n self.d self.border line.now (length res.old) (length work.old) }
+        ensures value { result ≡ is_interpolated self.border self.n self.d }
+        ensures res_after { res.new ≡ move_in self.border self.kernel self.d (take self.n line.now) ++ drop self.n res.old }
+        ensures work_after { work.new ≡ replicate (6 * self.n) (pos 0) ++ drop (6 * self.n) work.old }
+    {
+        let m = rows::places_of(self.border, self.n);
+        let interpolated = self.make_in(line, res, &mut work[..m]);
+        lists::clear(&mut work[..6 * self.n]);
+        interpolated
+    }
 }
 
 // The first n samples of `line` moved by d/4,096 samples under a kernel and a border, into the first n places of `result`; the first 6n places
@@ -156,18 +125,25 @@ pub fn move_line(
     line: &[i32],
     res: &mut [i32],
     work: &mut [i32],
-) -> LineOutcome
+) -> Result<Moved, Refusal>
     ensures { LineMoved n kernel d border line.now res.old work.old res.new work.new result }
 {
-    let held = arith::least(line.len(), res.len());
-    let applies = moves::bad_background(border);
-    let verdict = judge(n, kernel, d, 12, applies, line, held, work.len());
-    match verdict {
-        Verdict::Refused(number, row, column) => LineOutcome::Refused(number, row, column),
-        Verdict::Accepted => {
-            let interpolated = move_cleared(n, kernel, d, border, line, res, work);
-            let extremes = lists::extremes_of(res, n);
-            LineOutcome::Moved(interpolated, extremes)
-        }
-    }
+    let own = if moves::bad_background(border) {
+        Err(Refusal::BadBackground)
+    } else {
+        Ok(())
+    };
+    let held = line.len().min(res.len());
+    let kernel = judge(n, kernel, d, own, line, held, work.len())?;
+    let accepted = Move {
+        n,
+        kernel,
+        d,
+        border,
+    };
+    let interpolated = accepted.make(line, res, work);
+    Ok(Moved {
+        interpolated,
+        extremes: lists::extremes_of(&res[..n]),
+    })
 }

@@ -3,6 +3,7 @@
 -- of a picture. Assumes nothing.
 use Prim.Native.Nat.{ℕ, zero, suc, ◌+◌, ◌*◌, ◌/◌, ◌%◌, ◌≤◌, ◌<◌}
 use mathlib.Core.Path.{◌≡◌, refl, sym, ap, ap₂, ◌∙◌, subst}
+use mathlib.Core.Bool.{Bool, true, false, cond}
 use mathlib.Core.Logic.{◌⊎◌, inl, inr, ⊎_elim}
 use native.Mathlib.Nat.{eq-or-lt_of_le, not-suc-le-zero, le_of_suc-le-suc, div-lt_iff_lt-mul, mod-lt, mul_comm, mul-pos}
 use native.Mathlib.Numerals.{add-one}
@@ -10,11 +11,15 @@ use native.Mathlib.Omega.{arith}
 use mathlib.Core.List.{List, [], ◌∷◌, ◌++◌}
 use lib.Arith.{digits_div, digits_mod}
 use lib.IntN.{ℤ, pos, negsuc, nat_abs, ◌+ℤ◌}
-use lib.ListN.{length, get_or-append}
-use lib.Signed.{◌≤ℤ◌}
+use lib.ListN.{length, take, drop, get_or-append}
+use lib.Seq.{length-take-le}
+use Rattle.std.proofs.lemmas.List.{take-append-drop}
+use lib.Signed.{◌≤ℤ◌, lt_z}
+use Rattle.std.specs.Int.{int_min, int_max}
 use Rattle.arith.specs.Whole.{min_ℤ, max_ℤ}
 use Rattle.arith.proofs.Bridge.{bridge, all1, all2, all3}
-use Rattle.arith.proofs.Laws.{≤ℤ_trans, ≤ℤ_antisym, ≤ℤ_total}
+use Rattle.arith.proofs.Laws.{≤ℤ_trans, ≤ℤ_antisym, ≤ℤ_total, ≤ℤ_of_<ℤ}
+use Rattle.arith.proofs.Machine.{lt-true, lt-false}
 use Rattle.lists.specs.Line.{Line, line}
 use Rattle.lists.specs.Ends.{picked, smallest, largest, extremes_of, smallest_in_rows, largest_in_rows}
 use Rattle.lists.proofs.Rows.{row_in}
@@ -75,6 +80,12 @@ extremes_first n s t some room = rw (by min_ℤ, by max_ℤ) refl
     by : (of : ℤ → ℤ → ℤ) → picked of (line (s ++ t)) n ≡ picked of (line s) n
     by of = picked_same of (line (s ++ t)) (line s) n some (λ k l. get_or-append s t (pos 0) k (omega arith))
 
+-- those of the first n samples, as a list of their own
+pub extremes_take : (n : ℕ) (s : List ℤ) → 1 ≤ n → n ≤ length s → extremes_of (length (take n s)) (take n s) ≡ extremes_of n s
+extremes_take n s some room =
+    rw (length-take-le n s room) (sym (extremes_first n (take n s) (drop n s) some (rw (length-take-le n s room) (omega arith)))
+    ∙ ap (λ (t : List ℤ). extremes_of n t) (take-append-drop n s))
+
 -- ---- v is one of f 0 .. f (n - 1), and R holds of v and each of them
 pub record Extreme (R : ℤ → ℤ → Type 0) (f : Line) (n : ℕ) (v : ℤ) : Type 0 where
   pub each : (k : ℕ) → k < n → R v (f k)
@@ -130,6 +141,21 @@ max_low = all2 _ (simp bridge (omega arith))
 
 max_high : (x y : ℤ) → y ≤ℤ x → max_ℤ x y ≡ x
 max_high = all2 _ (simp bridge (omega arith))
+
+-- the library's two
+pub least : (x y : ℤ) → int_min x y ≡ min_ℤ x y
+least x y = by (lt_z y x) refl
+  where
+    by : (t : Bool) → lt_z y x ≡ t → cond t y x ≡ min_ℤ x y
+    by true e = sym (min_high x y (≤ℤ_of_<ℤ (lt-true y x e)))
+    by false e = sym (min_low x y (lt-false y x e))
+
+pub most : (x y : ℤ) → int_max x y ≡ max_ℤ x y
+most x y = by (lt_z y x) refl
+  where
+    by : (t : Bool) → lt_z y x ≡ t → cond t x y ≡ max_ℤ x y
+    by true e = sym (max_high x y (≤ℤ_of_<ℤ (lt-true y x e)))
+    by false e = sym (max_low x y (lt-false y x e))
 
 -- ---- the smallest and the largest
 pub smallest_is : (f : Line) (n : ℕ) → 1 ≤ n → Extreme (λ x y. x ≤ℤ y) f n (smallest f n)

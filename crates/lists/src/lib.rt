@@ -7,43 +7,18 @@ ghost use Rattle.lists.specs.Line.{line, rolled};
 ghost use Rattle.lists.specs.Grid.{line_of, put};
 ghost use Rattle.lists.specs.Ends.{extremes_of, joined_of};
 
-// The smallest and the largest of some samples.
+// The smallest and the largest of a group of samples.
 #[derive(Clone, Copy)]
 pub struct Extremes {
     pub smallest: i32,
     pub largest: i32,
 }
 
-// The first n places of dst become those of src; later ones stay.
-pub fn copy(src: &[i32], dst: &mut [i32], n: usize)
-    requires { (n ≤ length src.now) × (n ≤ length dst.old) }
-    ensures { dst.new ≡ take n src.now ++ drop n dst.old }
+// Every place becomes 0.
+pub fn clear(places: &mut [i32])
+    ensures { places.new ≡ replicate (length places.old) (pos 0) }
 {
-    let mut k: usize = 0;
-    while k < n {
-        dst[k] = src[k];
-        k += 1;
-    }
-}
-
-// The first n places become one value; later ones stay.
-pub fn fill_with(places: &mut [i32], n: usize, value: i32)
-    requires { n ≤ length places.old }
-    ensures { places.new ≡ replicate n value ++ drop n places.old }
-{
-    let mut k: usize = 0;
-    while k < n {
-        places[k] = value;
-        k += 1;
-    }
-}
-
-// The first n places become 0; later ones stay.
-pub fn clear(work: &mut [i32], n: usize)
-    requires { n ≤ length work.old }
-    ensures { work.new ≡ replicate n (pos 0) ++ drop n work.old }
-{
-    fill_with(work, n, 0);
+    places.fill(0);
 }
 
 // The line that starts at the place `at` of a picture, its places `along` apart, is read into `samples`.
@@ -51,11 +26,8 @@ pub fn load_line(picture: &[i32], at: usize, along: usize, samples: &mut [i32])
     requires { (k : ℕ) → k < length samples.old → at + k * along < length picture.now }
     ensures { samples.new ≡ line_of at along (length samples.old) picture.now }
 {
-    let n = samples.len();
-    let mut k: usize = 0;
-    while k < n {
-        samples[k] = picture[at + k * along];
-        k += 1;
+    for (k, sample) in samples.iter_mut().enumerate() {
+        *sample = picture[at + k * along];
     }
 }
 
@@ -64,11 +36,8 @@ pub fn store_part(picture: &mut [i32], at: usize, along: usize, samples: &[i32])
     requires { (k : ℕ) → k < length samples.now → at + k * along < length picture.old }
     ensures { picture.new ≡ put at along (line samples.now) (length samples.now) picture.old }
 {
-    let n = samples.len();
-    let mut k: usize = 0;
-    while k < n {
-        picture[at + k * along] = samples[k];
-        k += 1;
+    for (k, sample) in samples.iter().enumerate() {
+        picture[at + k * along] = *sample;
     }
 }
 
@@ -88,42 +57,23 @@ pub fn store_line(
 {
     let run = samples.len() - turn;
     if n <= run {
-        let end = turn + n;
-        store_part(picture, at, along, &samples[turn..end]);
+        store_part(picture, at, along, &samples[turn..turn + n]);
         return;
     }
     store_part(picture, at, along, &samples[turn..]);
-    let rest = n - run;
-    store_part(picture, at + run * along, along, &samples[..rest]);
+    store_part(picture, at + run * along, along, &samples[..n - run]);
 }
 
-// The lesser of two samples.
-fn lesser(a: i32, b: i32) -> i32
-    ensures { result ≡ min_ℤ a b }
-{
-    if a <= b { a } else { b }
-}
-
-// The greater of two samples.
-fn greater(a: i32, b: i32) -> i32
-    ensures { result ≡ max_ℤ a b }
-{
-    if a <= b { b } else { a }
-}
-
-// The smallest and the largest of the first n samples.
-pub fn extremes_of(samples: &[i32], n: usize) -> Extremes
-    requires { (1 ≤ n) × (n ≤ length samples.now) }
-    ensures { result ≡ extremes_of n samples.now }
+// The smallest and the largest of some samples.
+pub fn extremes_of(samples: &[i32]) -> Extremes
+    requires { 1 ≤ length samples.now }
+    ensures { result ≡ extremes_of (length samples.now) samples.now }
 {
     let mut smallest = samples[0];
     let mut largest = smallest;
-    let mut k: usize = 0;
-    while k < n {
-        let v = samples[k];
-        smallest = lesser(smallest, v);
-        largest = greater(largest, v);
-        k += 1;
+    for v in samples {
+        smallest = smallest.min(*v);
+        largest = largest.max(*v);
     }
     Extremes { smallest, largest }
 }
@@ -133,7 +83,7 @@ pub fn joined(a: Extremes, b: Extremes) -> Extremes
     ensures { result ≡ joined_of a b }
 {
     Extremes {
-        smallest: lesser(a.smallest, b.smallest),
-        largest: greater(a.largest, b.largest),
+        smallest: a.smallest.min(b.smallest),
+        largest: a.largest.max(b.largest),
     }
 }

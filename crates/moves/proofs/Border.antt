@@ -26,7 +26,8 @@ use Rattle.lists.proofs.Part.{part_before, part_in, part_after}
 use Rattle.refusals.proofs.Tests.{beyond_good, good_beyond}
 use Rattle.settings.specs.declared.Border.{Border}
 use Rattle.settings.specs.declared.Border.TheVariants.{Wrapped, Background}
-use Rattle.kernels.specs.Kernel.{Kernel, Linear, Keys, Spline}
+use Rattle.kernels.specs.declared.Kernel.{Kernel}
+use Rattle.kernels.specs.declared.Kernel.TheVariants.{Linear, Keys, Spline}
 use Rattle.moves.specs.declared.Part.{Part}
 use Rattle.moves.specs.Move.{first, moved, move}
 use Rattle.moves.specs.Border.{framed, far, bordered, move_in, gone, fraction_in, grey, bad_background}

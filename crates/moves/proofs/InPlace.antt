@@ -18,7 +18,9 @@ use Rattle.lists.specs.Tab.{tab}
 use Rattle.lists.specs.Line.{Line, wrap, line, rolled}
 use Rattle.lists.proofs.Tab.{tab-length, tab_at, tab_ext, tab_only}
 use Rattle.lists.proofs.Cyclic.{wrap-tab}
-use Rattle.kernels.specs.Kernel.{Kernel, Linear, Keys, Spline, kernel_of, weigh}
+use Rattle.kernels.specs.declared.Kernel.{Kernel}
+use Rattle.kernels.specs.declared.Kernel.TheVariants.{Linear, Keys, Spline}
+use Rattle.kernels.specs.Kernel.{kernel_of, weigh}
 use Rattle.kernels.specs.Four.{four_weights, weighted_sum}
 use Rattle.kernels.proofs.Four.{weigh_four}
 use Rattle.spline.specs.Coefficients.{coefficient, coefficients}

@@ -20,7 +20,9 @@ use Rattle.lists.proofs.Rows.{part_at}
 use Rattle.lists.proofs.Part.{part_in}
 use Rattle.settings.specs.declared.Border.{Border}
 use Rattle.settings.specs.declared.Border.TheVariants.{Wrapped, Background}
-use Rattle.kernels.specs.Kernel.{Kernel, Linear, Keys, Spline, kernel_of}
+use Rattle.kernels.specs.declared.Kernel.{Kernel}
+use Rattle.kernels.specs.declared.Kernel.TheVariants.{Linear, Keys, Spline}
+use Rattle.kernels.specs.Kernel.{kernel_of}
 use Rattle.kernels.proofs.Four.{weigh_four}
 use Rattle.moves.specs.declared.Part.{Part}
 use Rattle.moves.specs.Move.{divisor}

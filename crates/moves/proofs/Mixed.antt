@@ -5,7 +5,8 @@ use lib.IntN.{ℤ, pos, ◌+ℤ◌, ◌*ℤ◌, *ℤ_comm}
 use Rattle.arith.proofs.Ring.{ring, reify, vars3}
 use Rattle.arith.proofs.Sums.{Σ_cong, Σ-+ℤ, Σ-*ℤ}
 use Rattle.lists.specs.Line.{Line}
-use Rattle.kernels.specs.Kernel.{Kernel, norm, D³, weight, weigh}
+use Rattle.kernels.specs.declared.Kernel.{Kernel}
+use Rattle.kernels.specs.Kernel.{norm, D³, weight, weigh}
 use Rattle.arith.specs.Move.{fraction}
 use Rattle.moves.specs.Move.{first, mixed}
 use Rattle.kernels.proofs.Weights.{weights_sum}

@@ -23,7 +23,8 @@ use Rattle.arith.proofs.Within.{Within, within_size, size_within}
 use Rattle.lists.specs.Line.{Line, wrap, line}
 use Rattle.settings.specs.declared.Border.{Border}
 use Rattle.settings.specs.declared.Border.TheVariants.{Wrapped, Background}
-use Rattle.kernels.specs.Kernel.{Spline, norm, D³, weight, weigh}
+use Rattle.kernels.specs.declared.Kernel.TheVariants.{Spline}
+use Rattle.kernels.specs.Kernel.{norm, D³, weight, weigh}
 use Rattle.kernels.proofs.Weights.{sign, weight_non_neg}
 use Rattle.spline.specs.Coefficients.{coefficient}
 use Rattle.spline.proofs.Raised.{coefficient-raised}

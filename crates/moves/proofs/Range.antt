@@ -25,7 +25,9 @@ use Rattle.lists.proofs.Ends.{min_left, min_right, max_left, max_right, smallest
 use Rattle.refusals.specs.Tests.{AllWithin}
 use Rattle.settings.specs.declared.Border.{Border}
 use Rattle.settings.specs.declared.Border.TheVariants.{Wrapped, Background}
-use Rattle.kernels.specs.Kernel.{Kernel, Linear, Keys, Spline, kernel_of, norm, D³, weight, weigh}
+use Rattle.kernels.specs.declared.Kernel.{Kernel}
+use Rattle.kernels.specs.declared.Kernel.TheVariants.{Linear, Keys, Spline}
+use Rattle.kernels.specs.Kernel.{kernel_of, norm, D³, weight, weigh}
 use Rattle.kernels.proofs.Weights.{sign, weight_non_neg, weights_sum, norm_nonzero}
 use Rattle.moves.specs.Move.{first, mixed, source, moved}
 use Rattle.moves.specs.Border.{framed, far, bordered, move_in, gone, fraction_in, grey}

@@ -16,7 +16,9 @@ use Rattle.lists.proofs.Tab.{tab_at}
 use Rattle.lists.proofs.Cyclic.{wrap_every}
 use Rattle.arith.proofs.Within.{Within, within_size, size_within, round_within, cancel_within}
 use Rattle.spline.specs.Coefficients.{coefficient}
-use Rattle.kernels.specs.Kernel.{Kernel, Linear, Keys, Spline, norm, D³}
+use Rattle.kernels.specs.declared.Kernel.{Kernel}
+use Rattle.kernels.specs.declared.Kernel.TheVariants.{Linear, Keys, Spline}
+use Rattle.kernels.specs.Kernel.{norm, D³}
 use Rattle.kernels.proofs.Weights.{gain, most, norm_nonzero, norm_positive, weigh_within}
 use Rattle.arith.specs.Move.{fraction}
 use Rattle.moves.specs.Move.{first, mixed, source, moved, move}

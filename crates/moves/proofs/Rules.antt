@@ -9,7 +9,8 @@ use Rattle.arith.specs.Whole.{floor, remainder, round}
 use Rattle.arith.proofs.Round.{remainder_is, division_only}
 use Rattle.lists.specs.Line.{Line, wrap}
 use Rattle.spline.proofs.Rules.{wrap_local, coefficient_local}
-use Rattle.kernels.specs.Kernel.{Kernel, Linear, Keys, Spline}
+use Rattle.kernels.specs.declared.Kernel.{Kernel}
+use Rattle.kernels.specs.declared.Kernel.TheVariants.{Linear, Keys, Spline}
 use Rattle.arith.specs.Move.{whole}
 use Rattle.moves.specs.Move.{first, source, mixed, divisor, moved}
 

@@ -16,7 +16,9 @@ use Rattle.arith.proofs.Round.{round_only, round-scale, round_exact}
 use Rattle.arith.proofs.Within.{Within, cancel_within}
 use Rattle.lists.specs.Line.{Line, wrap}
 use Rattle.lists.proofs.Cyclic.{wrap_periodic, wrap_own, everywhere}
-use Rattle.kernels.specs.Kernel.{Kernel, Linear, Keys, Spline, D³, weigh}
+use Rattle.kernels.specs.declared.Kernel.{Kernel}
+use Rattle.kernels.specs.declared.Kernel.TheVariants.{Linear, Keys, Spline}
+use Rattle.kernels.specs.Kernel.{D³, weigh}
 use Rattle.spline.specs.Coefficients.{coefficient}
 use Rattle.spline.specs.Exact.{Solution}
 use Rattle.spline.proofs.Existence.{exact, denominator, exact_solution}

@@ -13,7 +13,9 @@ use Rattle.arith.specs.Whole.{round}
 use Rattle.lists.specs.Line.{wrap, line}
 use Rattle.lists.proofs.Cyclic.{wrap_own, wrap_periodic, wrap_every, periods}
 use Rattle.lists.proofs.Tab.{Filled, fill_end}
-use Rattle.kernels.specs.Kernel.{Kernel, Linear, weight}
+use Rattle.kernels.specs.declared.Kernel.{Kernel}
+use Rattle.kernels.specs.declared.Kernel.TheVariants.{Linear}
+use Rattle.kernels.specs.Kernel.{weight}
 use Rattle.kernels.specs.Four.{four_weights, weighted_sum}
 use Rattle.kernels.proofs.Four.{weigh_four}
 use Rattle.moves.specs.declared.TwoWeights.{TwoWeights}

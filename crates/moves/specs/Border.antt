@@ -8,7 +8,7 @@ use Rattle.lists.specs.Line.{Line, line}
 use Rattle.refusals.specs.Tests.{beyond_of}
 use Rattle.settings.specs.declared.Border.{Border}
 use Rattle.settings.specs.declared.Border.TheVariants.{Wrapped, Background}
-use Rattle.kernels.specs.Kernel.{Kernel}
+use Rattle.kernels.specs.declared.Kernel.{Kernel}
 use Rattle.moves.specs.Move.{moved}
 
 -- a line of N samples set between N samples of the value b on each side

@@ -1,14 +1,20 @@
 -- How a line is moved in place: it is prepared (kernel 2: the coefficients take the samples' places), each place is weighed where it stands,
 -- and the line is turned by its whole samples as it is stored. `moved_in_place` in proofs/ says that this is document 01's move.
 -- Assumes nothing.
-use Rattle.std.specs.Prelude.{◌≡◌, List, ℕ, ◌+◌, ◌-◌, ℤ, pos, ◌+ℤ◌, ◌*ℤ◌, length, ◌≤ℤ◌}
+use Rattle.std.specs.Prelude.{◌≡◌, List, ℕ, ◌+◌, ◌-◌, ℤ, pos, ◌+ℤ◌, ◌*ℤ◌, length, ◌≤ℤ◌, ◌<ℤ◌}
 use Rattle.arith.specs.Whole.{remainder, round}
 use Rattle.arith.specs.Move.{whole}
 use Rattle.lists.specs.Tab.{tab}
 use Rattle.lists.specs.Line.{Line, wrap, line, rolled}
-use Rattle.kernels.specs.Kernel.{Kernel, Linear, Keys, Spline, weight, weigh}
+use Rattle.kernels.specs.declared.Kernel.{Kernel}
+use Rattle.kernels.specs.declared.Kernel.TheVariants.{Linear, Keys, Spline}
+use Rattle.kernels.specs.Kernel.{weight, weigh}
 use Rattle.moves.specs.declared.TwoWeights.{TwoWeights}
 use Rattle.moves.specs.Move.{source, divisor}
+
+-- a fraction of a sample, in 4,096ths
+abbrev pub Fraction : ℤ → Type 0
+Fraction f = (pos 0 ≤ℤ f) × (f <ℤ pos 4096)
 
 -- the samples, or for kernel 2 their coefficients
 unfoldable pub prepared : Kernel → List ℤ → List ℤ

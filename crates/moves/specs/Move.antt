@@ -5,7 +5,9 @@ use Rattle.arith.specs.Whole.{remainder, round}
 use Rattle.arith.specs.Move.{fraction, whole}
 use Rattle.lists.specs.Tab.{tab}
 use Rattle.lists.specs.Line.{Line, wrap, line}
-use Rattle.kernels.specs.Kernel.{Kernel, Linear, Keys, Spline, weigh}
+use Rattle.kernels.specs.declared.Kernel.{Kernel}
+use Rattle.kernels.specs.declared.Kernel.TheVariants.{Linear, Keys, Spline}
+use Rattle.kernels.specs.Kernel.{weigh}
 use Rattle.spline.specs.Coefficients.{coefficient}
 
 -- q - 1 modulo N, the first source place of output 0

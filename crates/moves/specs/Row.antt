@@ -7,7 +7,8 @@ use Rattle.lists.specs.Tab.{tab}
 use Rattle.lists.specs.Line.{line}
 use Rattle.settings.specs.declared.Border.{Border}
 use Rattle.settings.specs.declared.Border.TheVariants.{Wrapped, Background}
-use Rattle.kernels.specs.Kernel.{Kernel, Linear, Keys, Spline}
+use Rattle.kernels.specs.declared.Kernel.{Kernel}
+use Rattle.kernels.specs.declared.Kernel.TheVariants.{Linear, Keys, Spline}
 use Rattle.moves.specs.declared.Part.{Part}
 use Rattle.moves.specs.Border.{framed, far}
 use Rattle.moves.specs.InPlace.{weighed, turn}

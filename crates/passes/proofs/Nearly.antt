@@ -10,7 +10,7 @@ use lib.Signed.{◌≤ℤ◌, le_z_yes}
 use Rattle.arith.proofs.Within.{Within, within_size, size_within}
 use Rattle.lists.specs.Line.{line}
 use Rattle.settings.specs.declared.Border.{Border}
-use Rattle.kernels.specs.Kernel.{Spline}
+use Rattle.kernels.specs.declared.Kernel.TheVariants.{Spline}
 use Rattle.moves.specs.Border.{grey}
 use Rattle.moves.specs.Range.{raised, Raised, RaisedWithin}
 use Rattle.moves.proofs.Nearly.{Nearly, nearly_equal, onward, bordered_nearly}

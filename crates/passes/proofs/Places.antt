@@ -7,7 +7,7 @@ use Rattle.lists.specs.Line.{line}
 use Rattle.lists.specs.Picture.{picture}
 use Rattle.lists.proofs.Picture.{pictured_at}
 use Rattle.settings.specs.declared.Border.{Border}
-use Rattle.kernels.specs.Kernel.{Kernel}
+use Rattle.kernels.specs.declared.Kernel.{Kernel}
 use Rattle.passes.specs.Picture.{straightened, straighten}
 
 -- each sample of a straightened list is one of a row of pass 3

@@ -7,7 +7,8 @@ use Prim.Native.Nat.{ℕ, zero, suc, ◌+◌, ◌*◌, ◌≤◌, ◌<◌, min}
 use native.Mathlib.Nat.{mul-pos}
 use lib.IntN.{ℤ, ◌+ℤ◌}
 use Rattle.settings.specs.declared.Border.{Border}
-use Rattle.kernels.specs.Kernel.{Kernel, Linear, Spline}
+use Rattle.kernels.specs.declared.Kernel.{Kernel}
+use Rattle.kernels.specs.declared.Kernel.TheVariants.{Linear, Spline}
 use Rattle.moves.specs.Range.{lowest, highest, Between, InRange, raised, Raised}
 use Rattle.moves.proofs.Range.{OnBackground, background_between, samples_between, bordered-between, bordered-raised, fraction-raised}
 use Rattle.lists.specs.Picture.{Picture, picture, Places}

@@ -9,7 +9,8 @@ use Rattle.arith.proofs.Laws.{pos-≤ℤ}
 use Rattle.arith.proofs.Within.{Within, within_size, size_within, widen}
 use Rattle.lists.specs.Line.{line}
 use Rattle.settings.specs.declared.Border.{Border}
-use Rattle.kernels.specs.Kernel.{Kernel, Linear, Keys, Spline}
+use Rattle.kernels.specs.declared.Kernel.{Kernel}
+use Rattle.kernels.specs.declared.Kernel.TheVariants.{Linear, Keys, Spline}
 use Rattle.moves.specs.Border.{grey}
 use Rattle.moves.proofs.Reach.{reach}
 use Rattle.moves.proofs.Border.{bordered_reach, reach_more}

@@ -5,7 +5,7 @@ use Prim.Native.Nat.{ℕ, ◌*◌, ◌<◌}
 use lib.IntN.{ℤ}
 use lib.ListN.{length}
 use Rattle.settings.specs.declared.Border.{Border}
-use Rattle.kernels.specs.Kernel.{Kernel}
+use Rattle.kernels.specs.declared.Kernel.{Kernel}
 use Rattle.lists.specs.Picture.{picture, pictured, Places}
 use Rattle.passes.specs.Picture.{turned, rows_moved, after_one, after_two, straighten}
 use Rattle.lists.proofs.Picture.{length-pictured, picture-pictured, pictured_same}

@@ -3,7 +3,7 @@
 use Rattle.std.specs.Prelude.{List, ℕ, ℤ, pos, ◌-ℤ◌, ◌*ℤ◌}
 use Rattle.lists.specs.Picture.{Picture, picture, pictured}
 use Rattle.settings.specs.declared.Border.{Border}
-use Rattle.kernels.specs.Kernel.{Kernel}
+use Rattle.kernels.specs.declared.Kernel.{Kernel}
 use Rattle.moves.specs.Border.{bordered}
 
 -- turned over its diagonal: row x is column x

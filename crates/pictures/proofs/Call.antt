@@ -7,19 +7,18 @@ use native.Mathlib.Nat.{mul-pos}
 use native.Mathlib.Omega.{arith}
 use lib.IntN.{ℤ, pos, nat_abs}
 use lib.ListN.{length, take, drop, replicate}
-use lib.Seq.{get_or-take, length-take-le, take_at}
+use lib.Seq.{get_or-take, take_at}
 use Rattle.lists.specs.declared.Extremes.{Extremes}
 use Rattle.lists.specs.Line.{line}
 use Rattle.lists.specs.Ends.{smallest, largest, extremes_of}
 use Rattle.lists.proofs.Ends.{smallest-rows, largest-rows}
-use Rattle.refusals.specs.declared.Verdict.{Verdict}
-use Rattle.refusals.specs.declared.Verdict.TheVariants.{Accepted, Refused}
-use Rattle.refusals.specs.Judging as verdict
-use Rattle.refusals.specs.Judging.{when_accepted}
+use Rattle.std.specs.Prelude.{Ok, Err}
+use Rattle.refusals.specs.declared.Refusal.{Refusal}
+use Rattle.refusals.specs.Judging.{Verdict, accepted, number_of, row_of, column_of, when_accepted}
 use Rattle.refusals.proofs.First.{BadAt}
 use Rattle.settings.specs.declared.Setting.{Setting}
 use Rattle.settings.specs.declared.Border.{Border}
-use Rattle.kernels.specs.Kernel.{Kernel}
+use Rattle.kernels.specs.declared.Kernel.{Kernel}
 use Rattle.moves.specs.Range.{InRange}
 use Rattle.moves.proofs.Range.{extremes_in_range, kernel_linear}
 use Rattle.lists.specs.Picture.{Picture, picture, Places}
@@ -36,9 +35,7 @@ use Rattle.exact.specs.Limits.{Demand3}
 use Rattle.exact.proofs.Demand.{straighten-demand3}
 use Rattle.acceptance.specs.Judge.{range, judged_on, Fit}
 use Rattle.acceptance.proofs.Accepted.{fit_range, accepted_fit, zero-accepted, refused_sample, refused-zero}
-use Rattle.pictures.specs.declared.Outcome.{Outcome}
-use Rattle.pictures.specs.Answer.{number_of, row_of, column_of, count_of, smallest_of, largest_of, outcome_of, kernel_in, row_moves, column_moves, third_rows, Answered, AnswerOn}
-use Rattle.pictures.specs.declared.Outcome.TheVariants as variants
+use Rattle.pictures.specs.Answer.{Outcome, count_of, smallest_of, largest_of, outcome_of, kernel_in, row_moves, column_moves, third_rows, Answered, AnswerOn}
 
 -- ---- the places of the picture after its first W·H are not read
 module _ (β : Border) (κ : Kernel) (W H : ℕ) (rows columns : ℕ → ℤ) (s : List ℤ) (hW : 0 < W) (hH : 0 < H) where
@@ -79,28 +76,10 @@ module _ {W H : ℕ} {s : Setting} {picture : List ℤ} {places work : ℕ} (f :
   written_in_range linear i l =
       rw (written_at i l, kernel_linear s.kernel linear) (straighten_in_range s.border (row_moves s) (column_moves s) f.width.0 f.height.0 picture i l)
 
--- ---- the picture's copy, and the part of work that is lent, are fit too
-pub copy_fit : {W H : ℕ} {s : Setting} {picture : List ℤ} {result work : ℕ} (copy : List ℤ) (room : ℕ) → Fit W H s picture result work
-    → copy ≡ take (W * H) picture → 12 * max W H ≤ room → Fit W H s copy (length copy) room
-copy_fit {W} {H} {s} {picture} copy room f e big =
-    record {
-      width = f.width;
-      height = f.height;
-      picture_places = omega (arith, long);
-      result_places = omega (arith, long);
-      work_places_lent = big;
-      setting = f.setting;
-      samples = λ i l. rw (e, get_or-take (W * H) picture i (pos 0) l) (f.samples i l);
-    }
-  where
-    long : length copy ≡ W * H
-    long = ap length e ∙ length-take-le (W * H) picture f.picture_places
-
 -- ---- the answer, whatever the call was judged by
 module _ (v : Verdict) (W H : ℕ) (s : Setting) (picture result work : List ℤ) where
-  pub refused-answer : (number row column : ℕ) → v ≡ Refused number row column
-      → Answered v W H s picture result work (variants.Refused number row column) result work
-  refused-answer number row column e =
+  pub refused-answer : (refusal : Refusal) → v ≡ Err refusal → Answered v W H s picture result work (Err refusal) result work
+  refused-answer refusal e =
       record {
         outcome = rw e refl;
         number = rw e refl;
@@ -111,19 +90,19 @@ module _ (v : Verdict) (W H : ℕ) (s : Setting) (picture result work : List ℤ
         largest = rw e refl;
         few = omega arith;
         written = rw e refl;
-        readable = λ a. let z : ◌≡◌ {A = ℕ} 0 1 = cc in absurd (omega arith);
+        readable = λ a. absurd cc;
         cleared = rw e refl;
-        demand3 = λ a. let z : ◌≡◌ {A = ℕ} 0 1 = cc in absurd (omega arith);
-        no_overshoot = λ a. let z : ◌≡◌ {A = ℕ} 0 1 = cc in absurd (omega arith);
-        told_in_range = λ a. let z : ◌≡◌ {A = ℕ} 0 1 = cc in absurd (omega arith);
+        demand3 = λ a. absurd cc;
+        no_overshoot = λ a. absurd cc;
+        told_in_range = λ a. absurd cc;
       }
 
-  pub accepted-answer : (lines : ℕ) (extremes : Extremes) (result' work' : List ℤ) → v ≡ Accepted → Fit W H s picture (length result) (length work)
+  pub accepted-answer : (lines : ℕ) (extremes : Extremes) (result' work' : List ℤ) → v ≡ accepted → Fit W H s picture (length result) (length work)
       → lines ≡ count s.border W H (row_moves s) (column_moves s)
       → extremes ≡ extremes_of (W * H) result'
       → result' ≡ straighten s.border (kernel_in s) W H (row_moves s) (column_moves s) (take (W * H) picture) ++ drop (W * H) result
       → work' ≡ replicate (12 * max W H) (pos 0) ++ drop (12 * max W H) work
-      → Answered v W H s picture result work (variants.Straightened lines extremes) result' work'
+      → Answered v W H s picture result work (Ok (record { lines = lines; extremes = extremes })) result' work'
   accepted-answer lines extremes result' work' e f counted found done zero =
       record {
         outcome = rw (e, counted, found) refl;
@@ -186,7 +165,7 @@ Told W H s result' r =
 -- ---- a call that answers number 0: it was accepted, and its result holds the straightened picture
 module _ (other : Bool) {W H : ℕ} {s : Setting} {picture result work : List ℤ} {r : Outcome} {result' work' : List ℤ}
     (a : AnswerOn other W H s picture result work r result' work') (zero : number_of r ≡ 0) where
-  pub was_accepted : judged_on other W H s picture (length result) (length work) ≡ Accepted
+  pub was_accepted : judged_on other W H s picture (length result) (length work) ≡ accepted
   was_accepted = zero-accepted other W H s picture (length result) (length work) (sym a.number ∙ zero)
 
   pub was_fit : Fit W H s picture (length result) (length work)
@@ -201,16 +180,11 @@ module _ (other : Bool) {W H : ℕ} {s : Setting} {picture result work : List �
   was_told = rw (a.outcome, was_accepted) (refl, refl, refl)
 
 -- ---- the row and the column of an answer: those of the first sample beyond the range, in row order, under 6, and 0 otherwise
-six : (v : Verdict) → verdict.number_of v ≡ 6 → v ≡ Refused 6 (verdict.row_of v) (verdict.column_of v)
-six Accepted e = absurd (omega arith)
-six (Refused number row column) e = ap (λ n. Refused n row column) e
-
 module _ (other : Bool) {W H : ℕ} {s : Setting} {picture result work : List ℤ} {r : Outcome} {result' work' : List ℤ}
     (a : AnswerOn other W H s picture result work r result' work') where
   pub sample_named : number_of r ≡ 6 → BadAt range W H picture (row_of r) (column_of r)
   sample_named e =
-      let v = judged_on other W H s picture (length result) (length work) in
-      rw (a.row, a.column) (refused_sample other W H s picture (length result) (length work) (verdict.row_of v) (verdict.column_of v) (six v (sym a.number ∙ e)))
+      rw (a.row, a.column) (refused_sample other W H s picture (length result) (length work) (sym a.number ∙ e))
 
   pub elsewhere_zero : (number_of r ≡ 6 → ⊥) → (row_of r ≡ 0) × (column_of r ≡ 0)
   elsewhere_zero not_six =

@@ -11,18 +11,19 @@ use Rattle.lists.specs.Tab.{tab}
 use Rattle.lists.specs.Line.{wrap}
 use Rattle.lists.specs.Ends.{picked, smallest_in_rows, largest_in_rows}
 use Rattle.refusals.specs.Tests.{bad_side, bad_size, short, bad_kernel, beyond_of, first_from, first_bad}
+use Rattle.refusals.specs.Judging.{number_of, row_of, column_of}
 use Rattle.settings.specs.declared.Border.{Border}
 use Rattle.settings.specs.declared.Border.TheVariants.{Wrapped, Background}
 use Rattle.settings.specs.declared.Setting.{Setting}
-use Rattle.kernels.specs.Kernel.{weigh, Keys}
+use Rattle.kernels.specs.declared.Kernel.TheVariants.{Keys}
+use Rattle.kernels.specs.Kernel.{weigh}
 use Rattle.moves.specs.Move.{first, mixed, source, moved}
 use Rattle.moves.specs.Border.{far, gone, fraction_in, bordered, bad_background}
 use Rattle.lists.specs.Picture.{picture, pictured}
 use Rattle.passes.specs.Picture.{rows_moved, straighten}
 use Rattle.passes.specs.Count.{interpolated, count}
 use Rattle.acceptance.specs.Judge.{too_short, bad_centre, bad_shears, judged_on}
-use Rattle.pictures.specs.declared.Outcome.{Outcome}
-use Rattle.pictures.specs.Answer.{number_of, row_of, column_of, count_of, smallest_of, largest_of, row_moves, column_moves, third_rows, verdict_of, outcome_of}
+use Rattle.pictures.specs.Answer.{Outcome, count_of, smallest_of, largest_of, row_moves, column_moves, third_rows, verdict_of, outcome_of}
 
 -- a wrapped setting: kernel, centre and shears
 abbrev set : ℕ → ℕ → ℕ → ℤ → ℤ → Setting

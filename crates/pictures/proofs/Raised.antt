@@ -16,8 +16,7 @@ use Rattle.moves.proofs.Range.{kernel_spline, kernel_not_spline}
 use Rattle.passes.proofs.Range.{straighten-raised, count-raised}
 use Rattle.passes.proofs.Nearly.{straighten_nearly}
 use Rattle.acceptance.specs.Judge.{Fit}
-use Rattle.pictures.specs.declared.Outcome.{Outcome}
-use Rattle.pictures.specs.Answer.{kernel_in, row_moves, column_moves}
+use Rattle.pictures.specs.Answer.{Outcome, kernel_in, row_moves, column_moves}
 use Rattle.pictures.specs.Raised.{BothStraightened, PictureRaised}
 use Rattle.pictures.proofs.Call.{was_fit, was_straightened, was_told}
 

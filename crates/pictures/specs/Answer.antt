@@ -1,53 +1,36 @@
 -- What the three-pass call answers, and what it leaves in the result and in work. Assumes nothing.
-use Rattle.std.specs.Prelude.{ℕ, ◌+◌, ◌*◌, ◌-◌, ◌≤◌, max, ◌≡◌, Bool, false, List, ◌++◌, ℤ, pos, length, take, drop, replicate, ◌≤ℤ◌}
-use Rattle.lists.specs.declared.Extremes.{Extremes}
+use Rattle.std.specs.Prelude.{ℕ, ◌+◌, ◌*◌, ◌-◌, ◌≤◌, max, ◌≡◌, Bool, false, List, ◌++◌, ℤ, pos, length, take, drop, replicate, ◌≤ℤ◌, Result, Ok, Err}
 use Rattle.lists.specs.Ends.{extremes_of, smallest_in_rows, largest_in_rows}
-use Rattle.refusals.specs.declared.Verdict.{Verdict}
-use Rattle.refusals.specs.declared.Verdict.TheVariants.{Accepted, Refused}
+use Rattle.refusals.specs.declared.Refusal.{Refusal}
 use Rattle.refusals.specs.Tests.{AllWithin}
-use Rattle.refusals.specs.Judging as verdict
-use Rattle.refusals.specs.Judging.{when_accepted}
+use Rattle.refusals.specs.Judging.{Verdict, accepted, answer_by, number_of, row_of, column_of, when_accepted}
 use Rattle.settings.specs.declared.Setting.{Setting}
-use Rattle.kernels.specs.Kernel.{Kernel, kernel_of}
+use Rattle.kernels.specs.declared.Kernel.{Kernel}
+use Rattle.kernels.specs.Kernel.{kernel_of}
 use Rattle.moves.specs.Range.{lowest, highest, InRange}
 use Rattle.lists.specs.Picture.{Picture, picture}
 use Rattle.passes.specs.Picture.{shear, straightened, straighten}
 use Rattle.passes.specs.Count.{count}
 use Rattle.exact.specs.Limits.{Demand3}
 use Rattle.acceptance.specs.Judge.{judged_on, judged}
-use Rattle.pictures.specs.declared.Outcome.{Outcome}
-use Rattle.pictures.specs.declared.Outcome.TheVariants as variants
+use Rattle.pictures.specs.declared.Straightened.{Straightened}
 
--- document 01's number, row, column and count of each outcome
-abbrev pub number_of : Outcome → ℕ
-number_of (variants.Straightened lines extremes) = 0
-number_of (variants.Refused number row column) = number
+-- what a call comes to: straightened, or refused
+abbrev pub Outcome : Type 0
+Outcome = Result Straightened Refusal
 
-abbrev pub row_of : Outcome → ℕ
-row_of (variants.Straightened lines extremes) = 0
-row_of (variants.Refused number row column) = row
-
-abbrev pub column_of : Outcome → ℕ
-column_of (variants.Straightened lines extremes) = 0
-column_of (variants.Refused number row column) = column
-
+-- the lines interpolated, and the smallest and the largest sample of the result (Q-6): all three 0 where refused
 abbrev pub count_of : Outcome → ℕ
-count_of (variants.Straightened lines extremes) = lines
-count_of (variants.Refused number row column) = 0
+count_of (Ok told) = told.lines
+count_of (Err refusal) = 0
 
--- the smallest and the largest sample of the result (Q-6), 0 where refused
 abbrev pub smallest_of : Outcome → ℤ
-smallest_of (variants.Straightened lines extremes) = extremes.smallest
-smallest_of (variants.Refused number row column) = pos 0
+smallest_of (Ok told) = told.extremes.smallest
+smallest_of (Err refusal) = pos 0
 
 abbrev pub largest_of : Outcome → ℤ
-largest_of (variants.Straightened lines extremes) = extremes.largest
-largest_of (variants.Refused number row column) = pos 0
-
--- the outcome of a verdict, with the lines interpolated and the extremes of the result when accepted
-abbrev pub outcome_by : Verdict → ℕ → Extremes → Outcome
-outcome_by Accepted lines extremes = variants.Straightened lines extremes
-outcome_by (Refused number row column) lines extremes = variants.Refused number row column
+largest_of (Ok told) = told.extremes.largest
+largest_of (Err refusal) = pos 0
 
 -- a setting's kernel, and how far it moves each row and each column
 abbrev pub kernel_in : Setting → Kernel
@@ -69,7 +52,7 @@ verdict_of W H s picture result work = judged W H s picture (length result) (len
 
 -- the outcome of a call with the verdict v that leaves `result'`: its extremes are those of the first W·H samples there
 abbrev pub outcome_of : Verdict → ℕ → ℕ → Setting → List ℤ → Outcome
-outcome_of v W H s result' = outcome_by v (count s.border W H (row_moves s) (column_moves s)) (extremes_of (W * H) result')
+outcome_of v W H s result' = answer_by v (record { lines = count s.border W H (row_moves s) (column_moves s); extremes = extremes_of (W * H) result' })
 
 -- The full answer of a call with the verdict v that lends `picture`, `result` and `work` as they are at entry: r is its outcome, and result' and
 -- work' are the buffers at exit. Refused, it says its number, row and column, every other figure is 0, and both buffers stay as they were.
@@ -80,20 +63,20 @@ outcome_of v W H s result' = outcome_by v (count s.border W H (row_moves s) (col
 -- smallest and the largest that are told.
 pub record Answered (v : Verdict) (W H : ℕ) (s : Setting) (picture result work : List ℤ) (r : Outcome) (result' work' : List ℤ) : Type 0 where
   pub outcome : r ≡ outcome_of v W H s result'
-  pub number : number_of r ≡ verdict.number_of v
-  pub row : row_of r ≡ verdict.row_of v
-  pub column : column_of r ≡ verdict.column_of v
+  pub number : number_of r ≡ number_of v
+  pub row : row_of r ≡ row_of v
+  pub column : column_of r ≡ column_of v
   pub count : count_of r ≡ when_accepted v (count s.border W H (row_moves s) (column_moves s)) 0
   pub smallest : smallest_of r ≡ when_accepted v (smallest_in_rows W H (third_rows W H s picture)) (pos 0)
   pub largest : largest_of r ≡ when_accepted v (largest_in_rows W H (third_rows W H s picture)) (pos 0)
   pub few : count_of r ≤ 2 * (H - 1) + (W - 1)
   pub written : result'
       ≡ when_accepted v (straighten s.border (kernel_in s) W H (row_moves s) (column_moves s) (take (W * H) picture) ++ drop (W * H) result) result
-  pub readable : v ≡ Accepted → AllWithin 1048576 (W * H) result'
+  pub readable : v ≡ accepted → AllWithin 1048576 (W * H) result'
   pub cleared : work' ≡ when_accepted v (replicate (12 * max W H) (pos 0) ++ drop (12 * max W H) work) work
-  pub demand3 : v ≡ Accepted → Demand3 s.border (kernel_in s) W H (row_moves s) (column_moves s) picture (take (W * H) result')
-  pub no_overshoot : v ≡ Accepted → s.kernel ≡ 0 → InRange s.border (W * H) picture result'
-  pub told_in_range : v ≡ Accepted → s.kernel ≡ 0
+  pub demand3 : v ≡ accepted → Demand3 s.border (kernel_in s) W H (row_moves s) (column_moves s) picture (take (W * H) result')
+  pub no_overshoot : v ≡ accepted → s.kernel ≡ 0 → InRange s.border (W * H) picture result'
+  pub told_in_range : v ≡ accepted → s.kernel ≡ 0
       → (lowest s.border (W * H) picture ≤ℤ smallest_of r) × (largest_of r ≤ℤ highest s.border (W * H) picture)
 
 -- a call whose verdict is that of the tests, on a ticket of another size or not (Q-7)

@@ -4,8 +4,8 @@ use Rattle.std.specs.Prelude.{ℕ, ◌*◌, ◌≤◌, ◌≡◌, Bool, List, �
 use Rattle.settings.specs.declared.Setting.{Setting}
 use Rattle.settings.specs.Setting.{with_border}
 use Rattle.moves.specs.Range.{raised, Raised, RaisedWithin}
-use Rattle.pictures.specs.declared.Outcome.{Outcome}
-use Rattle.pictures.specs.Answer.{number_of, count_of, smallest_of, largest_of, AnswerOn}
+use Rattle.refusals.specs.Judging.{number_of}
+use Rattle.pictures.specs.Answer.{Outcome, count_of, smallest_of, largest_of, AnswerOn}
 
 -- both are accepted: the second has c added to every sample of the first, and to its background
 pub record BothStraightened (other other₂ : Bool) (c : ℤ) (W H : ℕ) (s : Setting) (picture result work : List ℤ) (r : Outcome) (result' work' : List ℤ)

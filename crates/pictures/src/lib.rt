@@ -12,15 +12,14 @@ ghost use Rattle.pictures.specs.Answer.{kernel_in, row_moves, column_moves, Answ
 
 use lists::Extremes;
 use planes::Slices;
-use refusals::Verdict;
+use refusals::Refusal;
 use settings::Setting;
 
-// What a call comes to: straightened, with the number of lines interpolated and the smallest and the largest sample of the result; or refused
-// under a number, with a row and a column that are 0 except under 6.
+// What an accepted call tells: the number of lines interpolated, and the smallest and the largest sample of the result.
 #[derive(Clone, Copy)]
-pub enum Outcome {
-    Straightened(u32, Extremes),
-    Refused(u32, usize, usize),
+pub struct Straightened {
+    pub lines: u32,
+    pub extremes: Extremes,
 }
 
 // Rows, columns, rows, in place: a picture is one slice of its own. Answers how many lines were interpolated.
@@ -65,7 +64,7 @@ pub fn straighten_accepted(
 {
     let places = width * height;
     let room = acceptance::room(width, height);
-    lists::copy(picture, res, places);
+    res[..places].copy_from_slice(&picture[..places]);
     let lines = three_passes(
         &mut res[..places],
         &mut work[..room],
@@ -73,7 +72,7 @@ pub fn straighten_accepted(
         height,
         setting,
     );
-    lists::clear(work, room);
+    lists::clear(&mut work[..room]);
     lines
 }
 
@@ -87,10 +86,10 @@ pub fn straighten_on(
     picture: &[i32],
     res: &mut [i32],
     work: &mut [i32],
-) -> Outcome
+) -> Result<Straightened, Refusal>
     ensures { AnswerOn other width height setting picture.now res.old work.old result res.new work.new }
 {
-    let verdict = acceptance::judge_on(
+    acceptance::judge_on(
         other,
         width,
         height,
@@ -98,15 +97,10 @@ pub fn straighten_on(
         picture,
         res.len(),
         work.len(),
-    );
-    match verdict {
-        Verdict::Refused(number, row, column) => Outcome::Refused(number, row, column),
-        Verdict::Accepted => {
-            let lines = straighten_accepted(width, height, setting, picture, res, work);
-            let extremes = lists::extremes_of(res, width * height);
-            Outcome::Straightened(lines, extremes)
-        }
-    }
+    )?;
+    let lines = straighten_accepted(width, height, setting, picture, res, work);
+    let extremes = lists::extremes_of(&res[..width * height]);
+    Ok(Straightened { lines, extremes })
 }
 
 // Straightens a picture of `width` by `height` samples into `result`, with the kernel, the centre, the shears and the border of `setting`. `work` lends
@@ -122,7 +116,7 @@ pub fn straighten(
     picture: &[i32],
     res: &mut [i32],
     work: &mut [i32],
-) -> Outcome
+) -> Result<Straightened, Refusal>
     ensures { Answer width height setting picture.now res.old work.old result res.new work.new }
 {
     straighten_on(false, width, height, setting, picture, res, work)

@@ -8,7 +8,8 @@ use lib.IntN.{ℤ}
 use lib.ListN.{length}
 use Rattle.settings.specs.declared.Border.{Border}
 use Rattle.settings.specs.declared.Setting.{Setting}
-use Rattle.kernels.specs.Kernel.{Kernel, kernel_of}
+use Rattle.kernels.specs.declared.Kernel.{Kernel}
+use Rattle.kernels.specs.Kernel.{kernel_of}
 use Rattle.lists.specs.Picture.{Picture, Places, picture}
 use Rattle.passes.specs.Picture.{shear, rows_moved, after_one, after_two, turned, straightened, straighten}
 use Rattle.lists.proofs.Picture.{length-pictured, picture-pictured, pictured_same}

@@ -13,12 +13,14 @@ use Rattle.lists.specs.Grid.{line_of, Lines}
 use Rattle.lists.proofs.Grid.{line_of_at, line_of-length, behind, passed_other}
 use Rattle.settings.specs.declared.Border.{Border}
 use Rattle.settings.specs.declared.Setting.{Setting}
-use Rattle.kernels.specs.Kernel.{Kernel}
+use Rattle.kernels.specs.declared.Kernel.{Kernel}
 use Rattle.moves.specs.Border.{bordered, grey}
 use Rattle.moves.proofs.Border.{bordered_local, move_in_at, places_few}
 use Rattle.lists.specs.Picture.{Places}
 use Rattle.passes.specs.Picture.{turned, rows_moved, after_one, after_two, straightened}
 use Rattle.passes.proofs.Reach.{after_one_range, after_two_range}
+use Rattle.offsets.specs.declared.Moves.TheVariants.{Sheared}
+use Rattle.shears.specs.declared.Shear.{Shear}
 use Rattle.shears.specs.Pass.{moved_at, lines_moved}
 use Rattle.planes.specs.declared.Slices.{Slices}
 use Rattle.planes.specs.Slices.{slice, Everywhere, Beside, Apart, transposed, exchanged}
@@ -73,15 +75,15 @@ passed_treated β κ moves s list list' wide lie e =
         (λ y x hy hx. ap (line list) (sym (from_first s.step (y * s.across + x * s.along)))) y x hy hx)
 
 -- ---- rows of slices exchanged
-pub exchanged_swept : (β : Border) (κ : Kernel) (a : ℤ) (c : ℕ) (s : Slices) (list list' : List ℤ) → 0 < s.columns
-    → Swept β κ (move_at true a c) (exchanged s) list list' → Swept β κ (move_at false a c) s list list'
+pub exchanged_swept : (h : Shear) (s : Slices) (list list' : List ℤ) → 0 < s.columns
+    → Swept h.border h.kernel (move_at h.moves true) (exchanged s) list list' → Swept h.border h.kernel (move_at h.moves false) s list list'
 unfolding rows_moved
-exchanged_swept β κ a c s list list' wide done =
+exchanged_swept h s list list' wide done =
     record {
       slices = λ i y x hi hy hx.
           ap (line list') (exchanged-place s i y x)
           ∙ done.slices y i x hy hi hx
-          ∙ ap (λ (f : ℕ → ℤ). f x) (bordered_local β wide (λ k l. ap (line list) (sym (exchanged-place s i y k))) κ (move_at false a c i y));
+          ∙ ap (λ (f : ℕ → ℤ). f x) (bordered_local h.border wide (λ k l. ap (line list) (sym (exchanged-place s i y k))) h.kernel (move_at h.moves false i y));
       others = λ p none. done.others p (λ y i x hy hi hx e. none i y x hi hy hx (e ∙ sym (exchanged-place s i y x)));
     }
 
@@ -137,45 +139,39 @@ first_range s list range i y x hi hy hx = omega (arith, range i y x hi hy hx)
 pub exchanged_within : (s : Slices) (M : ℕ) (list : List ℤ) → SlicesWithin s M list → SlicesWithin (exchanged s) M list
 exchanged_within s M list range y i x hy hi hx = subst (λ (p : ℕ). nat_abs (line list p) ≤ M) (exchanged-place s i y x) (range i y x hi hy hx)
 
-pub exchanged_sweepable : {β : Border} {s : Slices} {kernel : ℕ} {a : ℤ} {c size room : ℕ} → Sweepable β s kernel a c size room → Sweepable β (exchanged s) kernel a c size room
+pub exchanged_sweepable : {h : Shear} {s : Slices} {size room : ℕ} → Sweepable h s size room → Sweepable h (exchanged s) size room
 exchanged_sweepable f =
     record {
       columns = f.columns;
       rows = f.slices;
       slices = f.rows;
       lie = exchanged_apart f.lie;
-      known = f.known;
       slight = f.slight;
-      central = f.central;
       plain = f.plain;
       roomy = f.roomy;
     }
 
-module _ {s : Slices} {set : Setting} {size work : ℕ} (f : Workable s set size work) where
-  pub rows_sweepable : Sweepable set.border s set.kernel set.a set.cy size work
+module _ {s : Slices} {set : Setting} {size work : ℕ} (f : Workable s set size work) (κ : Kernel) where
+  pub rows_sweepable : Sweepable (record { border = set.border; kernel = κ; moves = Sheared set.a set.cy }) s size work
   rows_sweepable =
       record {
         columns = f.columns;
         rows = f.rows;
         slices = f.slices;
         lie = f.lie;
-        known = f.setting.kernel;
-        slight = f.setting.shears.0;
-        central = omega (arith, f.setting.centre.1, f.rows.1);
+        slight = (f.setting.shears.0, omega (arith, f.setting.centre.1, f.rows.1));
         plain = omega (arith, f.setting.background);
         roomy = omega (arith, places_few set.border s.columns, f.work_places_lent);
       }
 
-  pub columns_sweepable : Sweepable set.border (transposed s) set.kernel set.b set.cx size work
+  pub columns_sweepable : Sweepable (record { border = set.border; kernel = κ; moves = Sheared set.b set.cx }) (transposed s) size work
   columns_sweepable =
       record {
         columns = f.rows;
         rows = f.columns;
         slices = f.slices;
         lie = transposed_apart f.lie;
-        known = f.setting.kernel;
-        slight = f.setting.shears.1;
-        central = omega (arith, f.setting.centre.0, f.columns.1);
+        slight = (f.setting.shears.1, omega (arith, f.setting.centre.0, f.columns.1));
         plain = omega (arith, f.setting.background);
         roomy = omega (arith, places_few set.border s.rows, f.work_places_lent);
       }

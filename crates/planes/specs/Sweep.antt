@@ -3,15 +3,17 @@ use Rattle.std.specs.Prelude.{ℕ, ◌*◌, ◌≤◌, max, ◌≡◌, Bool, tru
 use Rattle.lists.specs.Line.{line}
 use Rattle.settings.specs.declared.Border.{Border}
 use Rattle.settings.specs.declared.Setting.{Setting}
-use Rattle.kernels.specs.Kernel.{Kernel, kernel_of}
+use Rattle.kernels.specs.declared.Kernel.{Kernel}
+use Rattle.kernels.specs.Kernel.{kernel_of}
 use Rattle.moves.specs.Border.{grey}
 use Rattle.moves.specs.Row.{places}
 use Rattle.lists.specs.Picture.{Picture}
 use Rattle.passes.specs.Picture.{shear, rows_moved, straightened}
 use Rattle.acceptance.specs.Judge.{FitSetting}
 use Rattle.offsets.specs.declared.Moves.{Moves}
-use Rattle.offsets.specs.declared.Moves.TheVariants.{Sheared, Alike}
-use Rattle.offsets.specs.Moves.{move_of}
+use Rattle.offsets.specs.declared.Moves.TheVariants.{Alike}
+use Rattle.offsets.specs.Moves.{move_of, Slight}
+use Rattle.shears.specs.declared.Shear.{Shear}
 use Rattle.planes.specs.declared.Slices.{Slices}
 use Rattle.planes.specs.Slices.{slice, Everywhere, Beside, Apart}
 
@@ -24,13 +26,13 @@ pub record Treated (f : ℕ → Picture → Picture) (s : Slices) (list list' : 
   pub slices : Everywhere s (λ i y x. slice s list' i y x ≡ f i (slice s list i) y x)
   pub others : (p : ℕ) → Beside s p → line list' p ≡ line list p
 
--- how far the rows of slice i move: row y by a·(y - c); or all alike by a·(i - c), where slices stand for rows
-abbrev pub moves_at : Bool → ℤ → ℕ → ℕ → Moves
-moves_at true a c i = Alike (shear a c i)
-moves_at false a c i = Sheared a c
+-- how far the rows of slice i move: row y as `moves` has it; or all alike, as line i does there, where slices stand for rows
+abbrev pub moves_at : Moves → Bool → ℕ → Moves
+moves_at moves true i = Alike (move_of moves i)
+moves_at moves false i = moves
 
-abbrev pub move_at : Bool → ℤ → ℕ → ℕ → ℕ → ℤ
-move_at alike a c i = move_of (moves_at alike a c i)
+abbrev pub move_at : Moves → Bool → ℕ → ℕ → ℤ
+move_at moves alike i = move_of (moves_at moves alike i)
 
 -- row y of slice i is moved by `move i y`
 abbrev pub Swept : Border → Kernel → (ℕ → ℕ → ℤ) → Slices → List ℤ → List ℤ → Type 0
@@ -41,18 +43,16 @@ abbrev pub Straightened : Slices → Setting → List ℤ → List ℤ → Type 
 Straightened s set =
     Treated (λ i. straightened set.border (kernel_of set.kernel) s.columns s.rows (shear set.a set.cy) (shear set.b set.cx)) s
 
--- what moving the rows of slices in a list of `size` places asks: the sizes, the kernel, the ranges of the background, of the shear and of its centre,
--- and work places for four rows with what stands on either side of them
-pub record Sweepable (β : Border) (s : Slices) (kernel : ℕ) (a : ℤ) (c size room : ℕ) : Type 0 where
+-- what moving the rows of slices in a list of `size` places asks: the sizes, the ranges of the background and of the moves, and work places for four
+-- rows with what stands on either side of them
+pub record Sweepable (h : Shear) (s : Slices) (size room : ℕ) : Type 0 where
   pub columns : (1 ≤ s.columns) × (s.columns ≤ 1024)
   pub rows : (1 ≤ s.rows) × (s.rows ≤ 1024)
   pub slices : (1 ≤ s.slices) × (s.slices ≤ 1024)
   pub lie : Apart s size
-  pub known : kernel ≤ 2
-  pub slight : nat_abs a ≤ 4096
-  pub central : c ≤ 1024
-  pub plain : nat_abs (grey β) ≤ 294912
-  pub roomy : 4 * places β s.columns ≤ room
+  pub slight : Slight h.moves
+  pub plain : nat_abs (grey h.border) ≤ 294912
+  pub roomy : 4 * places h.border s.columns ≤ room
 
 -- what straightening slices in a list of `size` places, with `work` work places, asks
 pub record Workable (s : Slices) (set : Setting) (size work : ℕ) : Type 0 where

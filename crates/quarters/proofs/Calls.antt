@@ -8,19 +8,20 @@ use native.Mathlib.Omega.{arith}
 use lib.IntN.{ℤ}
 use lib.ListN.{length, take, drop, length-append, length-drop}
 use lib.Seq.{take_at}
-use Rattle.refusals.specs.declared.Verdict.{Verdict}
-use Rattle.refusals.specs.declared.Verdict.TheVariants.{Accepted, Refused}
-use Rattle.refusals.specs.Judging.{number_of}
+use Rattle.std.specs.Prelude.{Ok, Err}
+use Rattle.refusals.specs.declared.Refusal.{Refusal}
+use Rattle.refusals.specs.declared.Refusal.TheVariants.{BadMove}
+use Rattle.refusals.specs.Judging.{accepted, number_of}
+use Rattle.refusals.proofs.Judging.{some_number}
 use Rattle.readings.proofs.Passed.{Passed}
-use Rattle.readings.proofs.Figures.{by_figures}
+use Rattle.readings.proofs.Figures.{by_figures, answer_figures}
 use Rattle.arrangements.specs.Moves.{Screen, screen, stored, moved}
 use Rattle.arrangements.specs.Views.{swaps, from_right, from_below, viewed}
 use Rattle.arrangements.proofs.Screens.{Same, stored-length, stored_same, screen-stored}
 use Rattle.arrangements.proofs.Views.{moved-viewed, moved_sides, moved_size}
 use Rattle.arrangements.proofs.Places.{source_width, source_height, moved-through, moved_bijection}
 use Rattle.turns.specs.declared.View.{View}
-use Rattle.quarters.specs.declared.Moved.{Moved}
-use Rattle.quarters.specs.Answer.{bad_move, judged, moved_answer, Arranged, PictureMoved, view_of}
+use Rattle.quarters.specs.Answer.{bad_move, judged, Moved, width_of, height_of, size_after, moved_answer, Arranged, PictureMoved, view_of}
 use Rattle.quarters.proofs.Accepted.{accepted_fit, zero-accepted}
 
 -- ---- what is written is the moved picture
@@ -49,7 +50,7 @@ kept_size W H m l e s = let v = moved-viewed (screen W H s) m l in (sym (v.width
 
 -- ---- every sample has one place
 arranged_by : (W H m : ℕ) (s old new : List ℤ) (r : Moved) → m < 8 → 1 ≤ W → 1 ≤ H → new ≡ stored (moved m (screen W H s)) ++ drop (W * H) old
-    → r.width ≡ (moved m (screen W H s)).width → r.height ≡ (moved m (screen W H s)).height → Arranged W H m s new r
+    → width_of r ≡ (moved m (screen W H s)).width → height_of r ≡ (moved m (screen W H s)).height → Arranged W H m s new r
 arranged_by W H m s old new r l wide tall w ew eh =
     record {
       samples = rw w (take_at (stored (moved m p)) (drop (W * H) old) (W * H) (stored-length (moved m p) ∙ moved_size p m l)) ∙ moved-through W H m s l;
@@ -60,69 +61,62 @@ arranged_by W H m s old new r l wide tall w ew eh =
     p = screen W H s
 
 -- ---- what makes up the answer
-module _ (W H m : ℕ) (picture old : List ℤ) (r : Verdict) (e : r ≡ judged W H m (min (length picture) (length old)) picture) where
-  pub moved-refused : (number row column : ℕ) → r ≡ Refused number row column
-      → PictureMoved W H m picture old old (record { verdict = r; width = 0; height = 0 })
+module _ (W H m : ℕ) (picture old : List ℤ) where
+  pub moved-refused : (refusal : Refusal) → Err refusal ≡ judged W H m (min (length picture) (length old)) picture → PictureMoved W H m picture old old (Err refusal)
   unfolding moved_answer
-  moved-refused number row column t =
+  moved-refused refusal e =
       record {
-        answer = rw (← e, t) refl;
-        figures = rw e (by_figures W H (min (length picture) (length old)) (bad_move m) 16 picture refl);
-        written = rw t refl;
-        arranged = λ z. absurd (some (sym e ∙ t) (ap number_of (sym e) ∙ z));
+        answer = rw (← e) refl;
+        figures =
+            answer_figures _ _ (Err refusal) (size_after W H m picture)
+            (rw e (by_figures W H (min (length picture) (length old)) (bad_move m) BadMove picture refl));
+        written = refl;
+        arranged = λ z. absurd (some_number refusal z);
         refused = λ z. (refl, refl, refl);
       }
-    where
-      some : judged W H m (min (length picture) (length old)) picture ≡ Refused number row column
-          → number_of (judged W H m (min (length picture) (length old)) picture) ≡ 0 → ⊥
-      some q z = apart (sym (zero-accepted W H m (min (length picture) (length old)) picture z) ∙ q)
-        where
-          apart : Accepted ≡ Refused number row column → ⊥
-          apart q = let z : ◌≡◌ {A = ℕ} 0 1 = cc in omega arith
 
-  pub moved-accepted : (new : List ℤ) (w h : ℕ) → r ≡ Accepted → w ≡ (moved m (screen W H picture)).width → h ≡ (moved m (screen W H picture)).height
-      → new ≡ stored (moved m (screen W H picture)) ++ drop (W * H) old → PictureMoved W H m picture old new (record { verdict = r; width = w; height = h })
+  pub moved-accepted : {u : Unit} (new : List ℤ) (w h : ℕ) → Ok u ≡ judged W H m (min (length picture) (length old)) picture
+      → w ≡ (moved m (screen W H picture)).width → h ≡ (moved m (screen W H picture)).height
+      → new ≡ stored (moved m (screen W H picture)) ++ drop (W * H) old → PictureMoved W H m picture old new (Ok (record { width = w; height = h }))
   unfolding moved_answer
-  moved-accepted new w h t ew eh n =
-      let f = accepted_fit W H m (min (length picture) (length old)) picture (sym e ∙ t) in
+  moved-accepted new w h e ew eh n =
+      let f = accepted_fit W H m (min (length picture) (length old)) picture (sym e) in
       record {
-        answer = rw (← e, t, ew, eh) refl;
-        figures = rw e (by_figures W H (min (length picture) (length old)) (bad_move m) 16 picture refl);
-        written = rw t n;
+        answer = rw (← e, ew, eh) refl;
+        figures =
+            answer_figures _ _ accepted (record { width = w; height = h })
+            (rw e (by_figures W H (min (length picture) (length old)) (bad_move m) BadMove picture refl));
+        written = n;
         arranged = λ z. arranged_by W H m picture old new _ f.1 f.0.wide f.0.tall n ew eh;
-        refused = λ z. absurd (z (ap number_of t));
+        refused = λ z. absurd (z refl);
       }
 
 -- ---- what an accepted move leaves
-module _ {W H m : ℕ} {s old new : List ℤ} {r : Moved} (o : PictureMoved W H m s old new r) (none : number_of r.verdict ≡ 0) where
+module _ {W H m : ℕ} {s old new : List ℤ} {r : Moved} (o : PictureMoved W H m s old new r) (none : number_of r ≡ 0) where
   abbrev p : Screen ℤ
   p = screen W H s
 
-  says : r.verdict ≡ judged W H m (min (length s) (length old)) s
+  pub was_judged : judged W H m (min (length s) (length old)) s ≡ accepted
   unfolding moved_answer
-  says = ap (λ (a : Moved). a.verdict) o.answer
+  was_judged = zero-accepted (judged W H m (min (length s) (length old)) s) (size_after W H m s) (ap number_of (sym o.answer) ∙ none)
 
-  pub was_judged : judged W H m (min (length s) (length old)) s ≡ Accepted
-  was_judged = zero-accepted W H m (min (length s) (length old)) s (ap number_of (sym says) ∙ none)
-
-  pub was_accepted : r.verdict ≡ Accepted
-  was_accepted = says ∙ was_judged
+  pub was_accepted : r ≡ Ok (size_after W H m s)
+  unfolding moved_answer
+  was_accepted = o.answer ∙ rw was_judged refl
 
   pub was_fit : Passed W H (min (length s) (length old)) s × (m < 8)
   was_fit = accepted_fit W H m (min (length s) (length old)) s was_judged
 
-  pub was_width : r.width ≡ (moved m p).width
-  unfolding moved_answer
-  was_width = ap (λ (a : Moved). a.width) o.answer ∙ rw was_judged refl
+  pub was_width : width_of r ≡ (moved m p).width
+  was_width = ap width_of was_accepted
 
-  pub was_height : r.height ≡ (moved m p).height
-  unfolding moved_answer
-  was_height = ap (λ (a : Moved). a.height) o.answer ∙ rw was_judged refl
+  pub was_height : height_of r ≡ (moved m p).height
+  was_height = ap height_of was_accepted
 
   pub was_written : new ≡ stored (moved m p) ++ drop (W * H) old
   was_written = o.written ∙ rw was_accepted refl
 
-  pub was_area : r.width * r.height ≡ W * H
+  pub was_area : width_of r * height_of r ≡ W * H
   was_area = ap₂ (λ (w h : ℕ). w * h) was_width was_height ∙ moved_size p m was_fit.1
 
   -- the places of the picture itself, as it is lent and as it is written
@@ -136,5 +130,5 @@ module _ {W H m : ℕ} {s old new : List ℤ} {r : Moved} (o : PictureMoved W H 
   was_front = rw was_written (take_at (stored (moved m p)) (drop (W * H) old) (W * H) (stored-length (moved m p) ∙ moved_size p m was_fit.1))
 
   -- what is left, read with the size that was answered, is the moved picture
-  pub was_screen : Same (screen r.width r.height new) (moved m p)
+  pub was_screen : Same (screen (width_of r) (height_of r) new) (moved m p)
   was_screen = subst (λ (q : Screen ℤ). Same q (moved m p)) (rw (was_width, was_height, was_written) refl) (screen-stored (moved m p) (drop (W * H) old))

@@ -9,9 +9,9 @@ use lib.IntN.{ℤ, nat_abs}
 use lib.ListN.{length}
 use Rattle.lists.specs.Picture.{picture}
 use Rattle.lists.proofs.Picture.{inside, picture_at, at_index}
-use Rattle.refusals.specs.declared.Verdict.TheVariants.{Accepted}
+use Rattle.std.specs.Prelude.{Ok}
 use Rattle.refusals.specs.Tests.{AllWithin}
-use Rattle.refusals.specs.Judging.{number_of}
+use Rattle.refusals.specs.Judging.{accepted, number_of}
 use Rattle.readings.specs.Answers.{range}
 use Rattle.readings.proofs.Passed.{Passed}
 use Rattle.arrangements.specs.Moves.{Screen, screen, moved}
@@ -19,14 +19,13 @@ use Rattle.arrangements.specs.Table.{entry, inverse_of}
 use Rattle.arrangements.proofs.Screens.{Same, same_trans, stored_same, stored-screen}
 use Rattle.arrangements.proofs.Views.{moved_same, moved_sides, moved_from}
 use Rattle.arrangements.proofs.Table.{rule, moved_twice, moved_undone}
-use Rattle.quarters.specs.declared.Moved.{Moved}
-use Rattle.quarters.specs.Answer.{judged, moved_answer, PictureMoved}
+use Rattle.quarters.specs.Answer.{judged, Moved, width_of, height_of, size_after, moved_answer, PictureMoved}
 use Rattle.quarters.specs.TwoCalls.{InARow, AsOne, Back}
 use Rattle.quarters.proofs.Accepted.{fit_accepted}
 use Rattle.quarters.proofs.Calls.{was_fit, was_width, was_height, was_area, was_room, was_long, was_screen}
 
 -- ---- what an accepted move leaves can be moved again
-module _ {W H a : ℕ} {s mid mid' : List ℤ} {r : Moved} (o : PictureMoved W H a s mid mid' r) (none : number_of r.verdict ≡ 0) where
+module _ {W H a : ℕ} {s mid mid' : List ℤ} {r : Moved} (o : PictureMoved W H a s mid mid' r) (none : number_of r ≡ 0) where
   abbrev p : Screen ℤ
   p = screen W H s
 
@@ -40,26 +39,26 @@ module _ {W H a : ℕ} {s mid mid' : List ℤ} {r : Moved} (o : PictureMoved W H
   abbrev Side : ℕ → Type 0
   Side n = (1 ≤ n) × (n ≤ 1024)
 
-  sides : Side r.width × Side r.height
+  sides : Side (width_of r) × Side (height_of r)
   sides = rw (was_width o none, was_height o none) (moved_sides p a known Side (f.wide, f.sides.0) (f.tall, f.sides.1))
 
-  same : Same (screen r.width r.height mid') (moved a p)
+  same : Same (screen (width_of r) (height_of r) mid') (moved a p)
   same = was_screen o none
 
   -- every sample is one of the picture's
-  each : (y x : ℕ) → y < r.height → x < r.width → nat_abs (picture r.width mid' y x) ≤ range
+  each : (y x : ℕ) → y < height_of r → x < width_of r → nat_abs (picture (width_of r) mid' y x) ≤ range
   unfolding picture
   each y x ly lx =
       rw (same.at y x ly lx)
       (moved_from p a known (λ (z : ℤ). nat_abs z ≤ range) (λ i k li lk. f.within (i * W + k) (omega (arith, inside W H i k li lk, mul_comm H W)))
       y x (rw (← same.height) ly) (rw (← same.width) lx))
 
-  within : AllWithin range (r.height * r.width) mid'
+  within : AllWithin range ((height_of r) * (width_of r)) mid'
   within i l =
-      subst (λ (z : ℤ). nat_abs z ≤ range) (picture_at r.width mid' i)
-      (at_index (λ y x. nat_abs (picture r.width mid' y x) ≤ range) sides.0.0 each i (omega (arith, mul_comm r.height r.width)))
+      subst (λ (z : ℤ). nat_abs z ≤ range) (picture_at (width_of r) mid' i)
+      (at_index (λ y x. nat_abs (picture (width_of r) mid' y x) ≤ range) sides.0.0 each i (omega (arith, mul_comm (height_of r) (width_of r))))
 
-  pub again_passed : (old : List ℤ) → W * H ≤ length old → Passed r.width r.height (min (length mid') (length old)) mid'
+  pub again_passed : (old : List ℤ) → W * H ≤ length old → Passed (width_of r) (height_of r) (min (length mid') (length old)) mid'
   again_passed old room =
       record {
         sides = (sides.0.1, sides.1.1);
@@ -67,27 +66,28 @@ module _ {W H a : ℕ} {s mid mid' : List ℤ} {r : Moved} (o : PictureMoved W H
         tall = sides.1.0;
         some = mul-pos sides.1.0 sides.0.0;
         few = mul-le-mul sides.1.1 sides.0.1;
-        room = omega (arith, mul_comm r.height r.width, was_area o none, (was_room o none).1, was_long o none);
+        room = omega (arith, mul_comm (height_of r) (width_of r), was_area o none, (was_room o none).1, was_long o none);
         within = within;
       }
 
--- a call that is judged accepted answers number 0
-answers : {W H m : ℕ} {s old new : List ℤ} {r : Moved} → PictureMoved W H m s old new r → judged W H m (min (length s) (length old)) s ≡ Accepted → r.verdict ≡ Accepted
+-- a call that is judged accepted answers the size
+answers : {W H m : ℕ} {s old new : List ℤ} {r : Moved} → PictureMoved W H m s old new r → judged W H m (min (length s) (length old)) s ≡ accepted
+    → r ≡ Ok (size_after W H m s)
 unfolding moved_answer
-answers o e = ap (λ (x : Moved). x.verdict) o.answer ∙ e
+answers o e = o.answer ∙ rw e refl
 
 -- ---- two moves in a row
 module _ {W H a b : ℕ} {s mid mid' : List ℤ} {r : Moved} {old new : List ℤ} {r₂ : Moved} (c : InARow W H a b s mid mid' r old new r₂) where
   abbrev q : Screen ℤ
-  q = screen r.width r.height mid'
+  q = screen (width_of r) (height_of r) mid'
 
   first_known : a < 8
   first_known = (was_fit c.first c.accepted).1
 
-  second : judged r.width r.height b (min (length mid') (length old)) mid' ≡ Accepted
-  second = fit_accepted r.width r.height b _ mid' (again_passed c.first c.accepted old c.room) c.known
+  second : judged (width_of r) (height_of r) b (min (length mid') (length old)) mid' ≡ accepted
+  second = fit_accepted (width_of r) (height_of r) b _ mid' (again_passed c.first c.accepted old c.room) c.known
 
-  second_accepted : r₂.verdict ≡ Accepted
+  second_accepted : r₂ ≡ Ok (size_after (width_of r) (height_of r) b mid')
   second_accepted = answers c.second second
 
   wide : 0 < (moved b q).width
@@ -98,11 +98,10 @@ module _ {W H a b : ℕ} {s mid mid' : List ℤ} {r : Moved} {old new : List ℤ
   twice = moved_same b q (moved a (screen W H s)) c.known (was_screen c.first c.accepted)
 
   pub as_one : {r₁ : Moved} {one : List ℤ} → PictureMoved W H (entry a b) s old one r₁ → AsOne r₂ new r₁ one
-  unfolding moved_answer
   as_one {r₁} {one} d =
       record {
         accepted = ap number_of second_accepted;
-        answer = c.second.answer ∙ rw (second, both.width, both.height) (sym (d.answer ∙ rw alone refl));
+        answer = second_accepted ∙ rw (both.width, both.height) (sym (answers d alone));
         result =
             c.second.written
             ∙ rw (second_accepted, was_area c.first c.accepted, stored_same (moved b q) (moved (entry a b) (screen W H s)) wide both)
@@ -112,7 +111,7 @@ module _ {W H a b : ℕ} {s mid mid' : List ℤ} {r : Moved} {old new : List ℤ
       both : Same (moved b q) (moved (entry a b) (screen W H s))
       both = same_trans (moved b q) (moved b (moved a (screen W H s))) (moved (entry a b) (screen W H s)) twice (moved_twice a b first_known c.known (screen W H s))
 
-      alone : judged W H (entry a b) (min (length s) (length old)) s ≡ Accepted
+      alone : judged W H (entry a b) (min (length s) (length old)) s ≡ accepted
       alone =
           let f = (was_fit c.first c.accepted).0 in
           fit_accepted W H (entry a b) _ s

@@ -4,13 +4,12 @@
 #![tactic(auto)]
 
 ghost use Rattle.std.specs.Prelude.{◌≡◌, ◌++◌, ◌*◌, ◌<◌, length, drop};
-ghost use Rattle.refusals.specs.declared.Verdict.TheVariants.{Refused};
 ghost use Rattle.arrangements.specs.Moves.{screen, stored, moved};
 ghost use Rattle.arrangements.specs.Views.{swaps, from_right, from_below};
 ghost use Rattle.turns.specs.Block.{Held};
-ghost use Rattle.quarters.specs.Answer.{bad_move, own_verdict, view_of, PictureMoved, joined_answer, inverse_answer};
+ghost use Rattle.quarters.specs.Answer.{own_verdict, view_of, PictureMoved, joined_answer, inverse_answer};
 
-use refusals::Verdict;
+use refusals::Refusal;
 use turns::View;
 
 // Two moves in a row as one: row the first move, column the second.
@@ -28,41 +27,28 @@ const TABLE: [[u32; 8]; 8] = [
 // The move that undoes each.
 const INVERSES: [u32; 8] = [0, 3, 2, 1, 4, 5, 6, 7];
 
-// What moving a picture answers: the moved picture's width and height, 0 by 0 where it is refused.
+// A picture's width and height, in samples.
 #[derive(Clone, Copy)]
-pub struct Moved {
-    pub verdict: Verdict,
+pub struct Size {
     pub width: usize,
     pub height: usize,
 }
 
-// What a call for a move's number answers: the move, 0 where it is refused.
-#[derive(Clone, Copy)]
-pub struct Named {
-    pub verdict: Verdict,
-    pub quarter: u32,
-}
-
-// Whether a move's number is above 7.
-fn bad_move(quarter: u32) -> bool
-    ensures { result ≡ bad_move quarter }
-{
-    7 < quarter
-}
-
-// Number 16.
-fn judge_move(quarter: u32) -> Verdict
+// Number 16 for a move's number above 7. A move stays a number: document 01 gives the eight as 0 to 7, and the tests below calculate with it.
+#[tactic(auto, unfolding(crate::specs::Answer::bad_move))]
+fn judge_move(quarter: u32) -> Result<(), Refusal>
     ensures { result ≡ own_verdict quarter }
 {
-    if bad_move(quarter) {
-        return Verdict::Refused(16, 0, 0);
+    if 7 < quarter {
+        return Err(Refusal::BadMove);
     }
-    Verdict::Accepted
+    Ok(())
 }
 
 // ---- the picture as a move sees it
 
 // Whether a move makes columns of the picture's rows.
+#[tactic(auto, unfolding(arrangements::specs::Views::swaps))]
 fn swap(quarter: u32) -> bool
     ensures { result ≡ swaps quarter }
 {
@@ -70,6 +56,7 @@ fn swap(quarter: u32) -> bool
 }
 
 // Whether a move counts the picture's columns from the right.
+#[tactic(auto, unfolding(arrangements::specs::Views::from_right))]
 fn from_right(quarter: u32) -> bool
     ensures { result ≡ from_right quarter }
 {
@@ -77,6 +64,7 @@ fn from_right(quarter: u32) -> bool
 }
 
 // Whether a move counts the picture's rows from below.
+#[tactic(auto, unfolding(arrangements::specs::Views::from_below))]
 fn from_below(quarter: u32) -> bool
     ensures { result ≡ from_below quarter }
 {
@@ -119,70 +107,34 @@ pub fn move_picture(
     quarter: u32,
     picture: &[i32],
     res: &mut [i32],
-) -> Moved
+) -> Result<Size, Refusal>
     ensures { PictureMoved width height quarter picture.now res.old res.new result }
 {
-    let places = arith::least(picture.len(), res.len());
-    let verdict = readings::judge_by(width, height, places, judge_move(quarter), picture);
-    match verdict {
-        Verdict::Refused(_, _, _) => Moved {
-            verdict,
-            width: 0,
-            height: 0,
-        },
-        Verdict::Accepted => {
-            write_moved(picture, width, height, quarter, res);
-            if swap(quarter) {
-                return Moved {
-                    verdict,
-                    width: height,
-                    height: width,
-                };
-            }
-            Moved {
-                verdict,
-                width,
-                height,
-            }
-        }
+    let places = picture.len().min(res.len());
+    readings::judge_by(width, height, places, judge_move(quarter), picture)?;
+    write_moved(picture, width, height, quarter, res);
+    if swap(quarter) {
+        return Ok(Size {
+            width: height,
+            height: width,
+        });
     }
-}
-
-// The answer to a number above 7.
-fn not_a_move() -> Named
-    ensures { result ≡ record { verdict = Refused 16 0 0; quarter = 0 } }
-{
-    Named {
-        verdict: Verdict::Refused(16, 0, 0),
-        quarter: 0,
-    }
+    Ok(Size { width, height })
 }
 
 // The one move that two moves in a row are. It refuses, under 16, a number above 7.
-pub fn joined(first: u32, second: u32) -> Named
+pub fn joined(first: u32, second: u32) -> Result<u32, Refusal>
     ensures { result ≡ joined_answer first second }
 {
-    if bad_move(first) {
-        return not_a_move();
-    }
-    if bad_move(second) {
-        return not_a_move();
-    }
-    Named {
-        verdict: Verdict::Accepted,
-        quarter: TABLE[first as usize][second as usize],
-    }
+    judge_move(first)?;
+    judge_move(second)?;
+    Ok(TABLE[first as usize][second as usize])
 }
 
 // The move that undoes one. It refuses, under 16, a number above 7.
-pub fn inverse(quarter: u32) -> Named
+pub fn inverse(quarter: u32) -> Result<u32, Refusal>
     ensures { result ≡ inverse_answer quarter }
 {
-    if bad_move(quarter) {
-        return not_a_move();
-    }
-    Named {
-        verdict: Verdict::Accepted,
-        quarter: INVERSES[quarter as usize],
-    }
+    judge_move(quarter)?;
+    Ok(INVERSES[quarter as usize])
 }

@@ -5,12 +5,13 @@ use lib.IntN.{ℤ, pos, negsuc}
 use lib.Ieee.{binary32, round, to_bits, of_bits}
 use Rattle.arith.specs.Whole.{floor, min_ℤ, max_ℤ}
 use Rattle.lists.specs.Ends.{picked}
-use Rattle.refusals.specs.declared.Verdict.TheVariants.{Accepted, Refused}
+use Rattle.std.specs.Prelude.{Ok, Err}
+use Rattle.refusals.specs.declared.Refusal.TheVariants.{BadSize, TooShort, BadSample, Outside}
 use Rattle.refusals.specs.Tests.{bad_side, bad_size, short, beyond_of, first_from, first_bad}
-use Rattle.refusals.specs.Judging.{number_of, row_of, column_of}
+use Rattle.refusals.specs.Judging.{accepted, number_of, row_of, column_of}
 use Rattle.readings.specs.declared.Reading.TheVariants.{Level, Under, Over}
 use Rattle.readings.specs.Sample.{grey_of, float_of, reading_of}
-use Rattle.readings.specs.Answers.{judged_by, judged, outside, judged_point, reading_answer, summary_answer}
+use Rattle.readings.specs.Answers.{judged_by, judged, outside, judged_point, reading_answer, reading_of_answer, summary_answer, summary_of_answer}
 
 -- greys of -65, -64, 63, 64, 32,640 and 32,704: 64 units are the first of grey 1, and a grey is held to 0 to 255
 greys_at_the_borders :
@@ -46,29 +47,29 @@ ends_of_the_range = refl
 two_bad : List ℤ
 two_bad = pos 0 ∷ pos 1048576 ∷ negsuc 1048576 ∷ pos 1048577 ∷ []
 
-first_bad_sample : judged 2 2 4 two_bad ≡ Refused 6 1 0
+first_bad_sample : judged 2 2 4 two_bad ≡ Err (BadSample (record { row = 1; column = 0 }))
 unfolding two_bad judged judged_by bad_size bad_side short first_bad first_from beyond_of
 first_bad_sample = refl
 
 -- the range itself is accepted
-the_range : judged 1 2 2 two_bad ≡ Accepted
+the_range : judged 1 2 2 two_bad ≡ accepted
 unfolding two_bad judged judged_by bad_size bad_side short first_bad first_from beyond_of
 the_range = refl
 
 -- a bad size is told before a short buffer, that before a bad sample, and that before a point outside
-lowest_number : judged 1025 1 0 two_bad ≡ Refused 1 0 0
+lowest_number : judged 1025 1 0 two_bad ≡ Err BadSize
 unfolding two_bad judged judged_by bad_size bad_side short first_bad first_from beyond_of
 lowest_number = refl
 
-short_before_bad : judged 2 2 3 two_bad ≡ Refused 2 0 0
+short_before_bad : judged 2 2 3 two_bad ≡ Err TooShort
 unfolding two_bad judged judged_by bad_size bad_side short first_bad first_from beyond_of
 short_before_bad = refl
 
-bad_before_outside : judged_point 2 2 2 0 two_bad ≡ Refused 6 1 0
+bad_before_outside : judged_point 2 2 2 0 two_bad ≡ Err (BadSample (record { row = 1; column = 0 }))
 unfolding two_bad judged_point outside judged judged_by bad_size bad_side short first_bad first_from beyond_of
 bad_before_outside = refl
 
-point_outside : judged_point 1 2 0 2 two_bad ≡ Refused 7 0 0
+point_outside : judged_point 1 2 0 2 two_bad ≡ Err Outside
 unfolding two_bad judged_point outside judged judged_by bad_size bad_side short first_bad first_from beyond_of
 point_outside = refl
 
@@ -78,24 +79,27 @@ six : List ℤ
 six = pos 384 ∷ pos 40960 ∷ negsuc 63 ∷ pos 0 ∷ negsuc 127 ∷ pos 128 ∷ []
 
 darkest_and_lightest :
-    summary_answer 3 2 six ≡ record { verdict = Accepted; summary = record { darkest = of_bits binary32 0xBF80_0000; lightest = of_bits binary32 0x43A0_0000 } }
+    summary_answer 3 2 six ≡ Ok (record { darkest = of_bits binary32 0xBF80_0000; lightest = of_bits binary32 0x43A0_0000 })
 unfolding six summary_answer picked min_ℤ max_ℤ float_of round of_bits judged judged_by bad_size bad_side short first_bad first_from beyond_of
 darkest_and_lightest = refl
 
 -- column 2 and row 0 of it, half a grey below 0: Under by 16 and a half
-half_under : reading_answer 3 2 2 0 six ≡ record { verdict = Accepted; reading = Under (of_bits binary32 0x4184_0000) }
+half_under : reading_answer 3 2 2 0 six ≡ Ok (Under (of_bits binary32 0x4184_0000))
 unfolding six reading_answer reading_of float_of round of_bits judged_point outside judged judged_by bad_size bad_side short first_bad first_from beyond_of
 half_under = refl
 
 -- refused under 6, row 1, column 0: the reading is Level 0, and both greys of the summary are 0
-refused_reading : reading_answer 2 2 1 0 two_bad ≡ record { verdict = Refused 6 1 0; reading = Level (of_bits binary32 0) }
+refused_reading :
+    let r = reading_answer 2 2 1 0 two_bad in
+    (r ≡ Err (BadSample (record { row = 1; column = 0 }))) × (reading_of_answer r ≡ Level (of_bits binary32 0))
 unfolding two_bad reading_answer float_of round of_bits judged_point outside judged judged_by bad_size bad_side short first_bad first_from beyond_of
-refused_reading = refl
+refused_reading = (refl, refl)
 
 refused_summary :
-    summary_answer 2 2 two_bad ≡ record { verdict = Refused 6 1 0; summary = record { darkest = of_bits binary32 0; lightest = of_bits binary32 0 } }
+    let r = summary_answer 2 2 two_bad in
+    (r ≡ Err (BadSample (record { row = 1; column = 0 }))) × (summary_of_answer r ≡ record { darkest = of_bits binary32 0; lightest = of_bits binary32 0 })
 unfolding two_bad summary_answer float_of round of_bits judged judged_by bad_size bad_side short first_bad first_from beyond_of
-refused_summary = refl
+refused_summary = (refl, refl)
 
 refused_figures :
     let v = judged 2 2 4 two_bad in

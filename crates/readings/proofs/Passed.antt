@@ -6,13 +6,14 @@ use native.Mathlib.Nat.{mul-le-mul, mul-pos}
 use native.Mathlib.Omega.{arith}
 use lib.Dec.{leb}
 use lib.IntN.{ℤ, pos}
-use lib.ListN.{length}
+use lib.ListN.{length, take}
+use lib.Seq.{get_or-take, length-take-le}
 use borrow.Author.Tests.{leb-false, le-ltb, ne_eqb}
 use Rattle.lists.proofs.Rows.{row_in}
-use Rattle.refusals.specs.declared.Verdict.{Verdict}
-use Rattle.refusals.specs.declared.Verdict.TheVariants.{Accepted, Refused}
+use Rattle.std.specs.Prelude.{Err}
+use Rattle.refusals.specs.declared.Refusal.TheVariants.{BadSize, TooShort, BadSample, Outside, BadMove}
 use Rattle.refusals.specs.Tests.{bad_side, bad_size, short, beyond_of, first_from, first_bad, AllWithin}
-use Rattle.refusals.specs.Judging.{refused_if, of_found, and_then}
+use Rattle.refusals.specs.Judging.{Verdict, accepted, refused_if, of_found, and_then}
 use Rattle.refusals.proofs.Tests.{or_false, size_good, short_good}
 use Rattle.refusals.proofs.First.{nothing_bad}
 use Rattle.refusals.proofs.Judging.{refused_if-accepted, of_found-accepted, and_then-accepted}
@@ -22,7 +23,7 @@ use Rattle.readings.specs.Answers.{range, judged_by, judged, outside, judged_poi
 bad : List ℤ
 bad = pos 1048577 ∷ []
 
-own_between : (judged_by 1 1 0 (Refused 16 0 0) bad ≡ Refused 2 0 0) × (judged_by 1 1 1 (Refused 16 0 0) bad ≡ Refused 16 0 0)
+own_between : (judged_by 1 1 0 (Err BadMove) bad ≡ Err TooShort) × (judged_by 1 1 1 (Err BadMove) bad ≡ Err BadMove)
 unfolding bad judged_by bad_size bad_side short first_bad first_from beyond_of
 own_between = (refl, refl)
 
@@ -39,13 +40,13 @@ pub record Passed (width height places : ℕ) (picture : List ℤ) : Type 0 wher
 
 module _ (width height places : ℕ) (own : Verdict) (picture : List ℤ) where
   -- an accepted call has passed these, and its own number
-  pub passed_by : judged_by width height places own picture ≡ Accepted → Passed width height places picture × (own ≡ Accepted)
+  pub passed_by : judged_by width height places own picture ≡ accepted → Passed width height places picture × (own ≡ accepted)
   unfolding judged_by
   passed_by e =
-      let scan = of_found 6 (first_bad range width height picture) in
-      let a = refused_if-accepted (bad_size width height) 1 (refused_if (short places (height * width)) 2 (and_then own scan)) e in
-      let b = refused_if-accepted (short places (height * width)) 2 (and_then own scan) a.1 in
-      let d = and_then-accepted own scan b.1 in
+      let scan = of_found BadSample (first_bad range width height picture) in
+      let a = refused_if-accepted (bad_size width height) BadSize (refused_if (short places (height * width)) TooShort (and_then own scan)) _ e in
+      let b = refused_if-accepted (short places (height * width)) TooShort (and_then own scan) _ a.1 in
+      let d = and_then-accepted own scan _ b.1 in
       let size = size_good a.0 in (
         record {
           sides = (size.0.1, size.1.1);
@@ -54,13 +55,13 @@ module _ (width height places : ℕ) (own : Verdict) (picture : List ℤ) where
           some = mul-pos size.1.0 size.0.0;
           few = mul-le-mul size.1.1 size.0.1;
           room = short_good b.0;
-          within = (nothing_bad range width height picture).0 (of_found-accepted 6 (first_bad range width height picture) d.1);
+          within = (nothing_bad range width height picture).0 (of_found-accepted BadSample (first_bad range width height picture) d.1);
         },
         d.0,
       )
 
   -- and one that has is accepted
-  pub by_accepted : Passed width height places picture → own ≡ Accepted → judged_by width height places own picture ≡ Accepted
+  pub by_accepted : Passed width height places picture → own ≡ accepted → judged_by width height places own picture ≡ accepted
   unfolding judged_by bad_size bad_side short
   by_accepted p e =
       rw (
@@ -77,9 +78,13 @@ module _ (width height places : ℕ) (own : Verdict) (picture : List ℤ) where
       some : {n : ℕ} → 1 ≤ n → n ≡ 0 → ⊥
       some h e = omega arith
 
-pub passed : (width height places : ℕ) (picture : List ℤ) → judged width height places picture ≡ Accepted → Passed width height places picture
+pub passed : (width height places : ℕ) (picture : List ℤ) → judged width height places picture ≡ accepted → Passed width height places picture
 unfolding judged judged_by
-passed width height places picture e = (passed_by width height places Accepted picture e).0
+passed width height places picture e = (passed_by width height places accepted picture e).0
+
+-- the first n samples, as a list of their own
+pub within_first : (n : ℕ) (s : List ℤ) → n ≤ length s → AllWithin range n s → AllWithin range (length (take n s)) (take n s)
+within_first n s room h i l = let k : i < n = rw (length-take-le n s room) at l in rw (get_or-take n s i (pos 0) k) (h i k)
 
 -- with a point in it
 pub record PassedPoint (width height column row : ℕ) (picture : List ℤ) : Type 0 where
@@ -89,11 +94,11 @@ pub record PassedPoint (width height column row : ℕ) (picture : List ℤ) : Ty
   pub inside : row * width + column < height * width
 
 module _ (width height column row : ℕ) (picture : List ℤ) where
-  pub passed_point : judged_point width height column row picture ≡ Accepted → PassedPoint width height column row picture
+  pub passed_point : judged_point width height column row picture ≡ accepted → PassedPoint width height column row picture
   unfolding judged_point outside
   passed_point e =
-      let a = and_then-accepted (judged width height (length picture) picture) (refused_if (outside width height column row) 7 Accepted) e in
-      let b = or_false (leb width column) (leb height row) (refused_if-accepted (outside width height column row) 7 Accepted a.1).0 in
+      let a = and_then-accepted (judged width height (length picture) picture) (refused_if (outside width height column row) Outside accepted) _ e in
+      let b = or_false (leb width column) (leb height row) (refused_if-accepted (outside width height column row) Outside accepted _ a.1).0 in
       let r = leb-false height row b.1 in
       let c = leb-false width column b.0 in
       record {

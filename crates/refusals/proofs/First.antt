@@ -1,4 +1,4 @@
--- The first place at which a test holds, and by it the first sample beyond its range. Nothing is found just where every sample of the picture is within
+-- The first place at which a test holds, and by it the first sample beyond its range. None is found just where every sample of the picture is within
 -- the limit; a row and a column are found just where that sample is beyond it and every earlier one in row order is within. Assumes nothing.
 use Prim.Native.Nat.{ℕ, zero, suc, ◌+◌, ◌*◌, ◌-◌, ◌/◌, ◌%◌, ◌≤◌, ◌<◌}
 use mathlib.Core.Path.{◌≡◌, refl, sym, ap, ap₂, ◌∙◌, subst}
@@ -14,7 +14,9 @@ use lib.ListN.{get_or, take, drop, replicate, get_or-replicate}
 use lib.Seq.{get_or-take, get_or-drop}
 use lib.IntN.{ℤ, pos, nat_abs}
 use Rattle.lists.specs.Line.{line}
-use Rattle.refusals.specs.declared.Found.TheVariants.{Nothing, At}
+use Rattle.std.specs.Prelude.{Option, Some, None}
+use Rattle.refusals.specs.declared.Place.{Place}
+use Rattle.refusals.specs.Judging.{found_place}
 use Rattle.refusals.specs.Tests.{beyond_of, first_from, first_bad, AllWithin}
 use Rattle.refusals.proofs.Tests.{beyond_good, beyond_bad, good_beyond, bad_beyond}
 
@@ -34,12 +36,12 @@ at_or_later {A} k m from same later = by (ltb k m) refl
     by false e = same (omega (arith, ltb-false k m e))
 
 module _ (test : ℕ → Bool) (row column : ℕ → ℕ) where
-  none_from : (k n : ℕ) → ((j : ℕ) → k ≤ j → j < k + n → test j ≡ false) → first_from test row column k n ≡ Nothing
+  none_from : (k n : ℕ) → ((j : ℕ) → k ≤ j → j < k + n → test j ≡ false) → first_from test row column k n ≡ None
   unfolding first_from
   none_from k zero h = refl
   none_from k (suc n) h = rw (h k (omega arith) (omega arith)) (none_from (suc k) n (λ j a b. h j (omega arith) (omega arith)))
 
-  at_from : (k n m : ℕ) → FirstAt test k n m → first_from test row column k n ≡ At (row m) (column m)
+  at_from : (k n m : ℕ) → FirstAt test k n m → first_from test row column k n ≡ Some (record { row = row m; column = column m })
   unfolding first_from
   at_from k zero m f = absurd (omega (arith, f.from, f.inside))
   at_from k (suc n) m f =
@@ -50,12 +52,12 @@ module _ (test : ℕ → Bool) (row column : ℕ → ℕ) where
 
   -- ---- and back
   -- what the first place says, by its test
-  none_split : (k n : ℕ) (t : Bool) → cond t (At (row k) (column k)) (first_from test row column (suc k) n) ≡ Nothing
-      → (t ≡ false) × (first_from test row column (suc k) n ≡ Nothing)
+  none_split : (k n : ℕ) (t : Bool) → cond t (Some (record { row = row k; column = column k })) (first_from test row column (suc k) n) ≡ None
+      → (t ≡ false) × (first_from test row column (suc k) n ≡ None)
   none_split k n true e = let z : ◌≡◌ {A = ℕ} 0 1 = cc in absurd (omega arith)
   none_split k n false e = (refl, e)
 
-  from_none : (k n : ℕ) → first_from test row column k n ≡ Nothing → (j : ℕ) → k ≤ j → j < k + n → test j ≡ false
+  from_none : (k n : ℕ) → first_from test row column k n ≡ None → (j : ℕ) → k ≤ j → j < k + n → test j ≡ false
   unfolding first_from
   from_none k zero e j a b = absurd (omega arith)
   from_none k (suc n) e j a b =
@@ -69,14 +71,14 @@ module _ (test : ℕ → Bool) (row column : ℕ → ℕ) where
     pub row_is : y ≡ row place
     pub column_is : x ≡ column place
 
-  here_or_later : (k n y x : ℕ) (t : Bool) → test k ≡ t → cond t (At (row k) (column k)) (first_from test row column (suc k) n) ≡ At y x
-      → (first_from test row column (suc k) n ≡ At y x → Spot (suc k) n y x)
+  here_or_later : (k n y x : ℕ) (t : Bool) → test k ≡ t → cond t (Some (record { row = row k; column = column k })) (first_from test row column (suc k) n) ≡ Some (record { row = y; column = x })
+      → (first_from test row column (suc k) n ≡ Some (record { row = y; column = x }) → Spot (suc k) n y x)
       → Spot k (suc n) y x
   here_or_later k n y x true q e later = record {
     place = k;
     first = record { from = omega arith; inside = omega arith; earlier = λ j a b. absurd (omega arith); here = q };
-    row_is = cc;
-    column_is = cc;
+    row_is = sym (ap (λ (o : Option Place). (found_place o).row) e);
+    column_is = sym (ap (λ (o : Option Place). (found_place o).column) e);
   }
   here_or_later k n y x false q e later =
       let p = later e in
@@ -93,17 +95,17 @@ module _ (test : ℕ → Bool) (row column : ℕ → ℕ) where
         column_is = p.column_is;
       }
 
-  from_at : (k n y x : ℕ) → first_from test row column k n ≡ At y x → Spot k n y x
+  from_at : (k n y x : ℕ) → first_from test row column k n ≡ Some (record { row = y; column = x }) → Spot k n y x
   unfolding first_from
   from_at k zero y x e = let z : ◌≡◌ {A = ℕ} 0 1 = cc in absurd (omega arith)
   from_at k (suc n) y x e = here_or_later k n y x (test k) refl e (from_at (suc k) n y x)
 
   -- nothing is found just where the test holds nowhere
-  pub nothing-first : (k n : ℕ) → first_from test row column k n ≡ Nothing ↔ ((j : ℕ) → k ≤ j → j < k + n → test j ≡ false)
+  pub nothing-first : (k n : ℕ) → first_from test row column k n ≡ None ↔ ((j : ℕ) → k ≤ j → j < k + n → test j ≡ false)
   nothing-first k n = (from_none k n, none_from k n)
 
   -- a row and a column are found just where they are those of the first place
-  pub first_is : (k n y x : ℕ) → first_from test row column k n ≡ At y x ↔ Spot k n y x
+  pub first_is : (k n y x : ℕ) → first_from test row column k n ≡ Some (record { row = y; column = x }) ↔ Spot k n y x
   first_is k n y x = (from_at k n y x, λ p. at_from k n p.place p.first ∙ rw (p.row_is, p.column_is) refl)
 
 -- ---- the first a samples are within the limit, and so are the first n of the m that follow them
@@ -135,7 +137,7 @@ module _ (limit width height : ℕ) (s : List ℤ) where
   abbrev column_of_lem : ℕ → ℕ
   column_of_lem k = k % width
 
-  pub nothing_bad : first_bad limit width height s ≡ Nothing ↔ AllWithin limit (height * width) s
+  pub nothing_bad : first_bad limit width height s ≡ None ↔ AllWithin limit (height * width) s
   unfolding first_bad
   nothing_bad =
       let n = height * width in (
@@ -149,7 +151,7 @@ module _ (limit width height : ℕ) (s : List ℤ) where
     pub column_inside : x < width
     pub first : FirstBeyond limit (height * width) (y * width + x) s
 
-  pub first_bad_lem : (y x : ℕ) → first_bad limit width height s ≡ At y x ↔ BadAt y x
+  pub first_bad_lem : (y x : ℕ) → first_bad limit width height s ≡ Some (record { row = y; column = x }) ↔ BadAt y x
   unfolding first_bad
   first_bad_lem y x = (λ e. spotted ((first_is bad row_of column_of_lem 0 (height * width) y x).0 e), λ b. (first_is bad row_of column_of_lem 0 (height * width) y x).1 (found b))
     where
@@ -191,6 +193,6 @@ module _ (limit width height : ℕ) (s : List ℤ) where
           joined = ap₂ (λ (a b : ℕ). a * width + b) p.row_is p.column_is ∙ div-add-mod' p.place width
 
 -- a picture of one number within the limit has no such sample: what would take long to compute
-pub one_number_good : (limit width height n : ℕ) (v : ℤ) → height * width ≤ n → nat_abs v ≤ limit → first_bad limit width height (replicate n v) ≡ Nothing
+pub one_number_good : (limit width height n : ℕ) (v : ℤ) → height * width ≤ n → nat_abs v ≤ limit → first_bad limit width height (replicate n v) ≡ None
 one_number_good limit width height n v enough h =
     (nothing_bad limit width height (replicate n v)).1 (λ i l. rw (get_or-replicate n i v (pos 0) (omega arith)) h)

@@ -1,40 +1,45 @@
 -- Chains of tests: what an accepted call has passed, and that number 0 says that it is one. Assumes nothing.
-use Prim.Native.Nat.{ℕ}
 use mathlib.Core.Path.{◌≡◌, refl}
 use mathlib.Core.Bool.{Bool, true, false}
-use native.Mathlib.Omega.{arith}
-use Rattle.refusals.specs.declared.Found.{Found}
-use Rattle.refusals.specs.declared.Found.TheVariants.{Nothing, At}
-use Rattle.refusals.specs.declared.Verdict.{Verdict}
-use Rattle.refusals.specs.declared.Verdict.TheVariants.{Accepted, Refused}
-use Rattle.refusals.specs.Judging.{refused_if, of_found, and_then, number_of}
+use Rattle.std.specs.Prelude.{Option, Some, None, Result, Ok, Err}
+use Rattle.refusals.specs.declared.Place.{Place}
+use Rattle.refusals.specs.declared.Refusal.{Refusal}
+use Rattle.refusals.specs.declared.Refusal.TheVariants.{BadSize, TooShort, BadCentre, TooFar, BadKernel, BadSample, TooLarge, Outside, TooSteep, Malformed, BadBackground, OtherSize, BelowThreshold, BadMove, BadPlane}
+use Rattle.refusals.specs.Judging.{number, Verdict, accepted, refused_if, of_found, and_then, number_of}
 
 -- an accepted call has passed the test, and the later ones
-pub refused_if-accepted : (t : Bool) (number : ℕ) (later : Verdict) → refused_if t number later ≡ Accepted → (t ≡ false) × (later ≡ Accepted)
-refused_if-accepted true number later e = let z : ◌≡◌ {A = ℕ} 0 1 = cc in absurd (omega arith)
-refused_if-accepted false number later e = (refl, e)
+pub refused_if-accepted : {A : Type 0} (t : Bool) (refusal : Refusal) (later : Result A Refusal) (x : A)
+    → refused_if t refusal later ≡ Ok x → (t ≡ false) × (later ≡ Ok x)
+refused_if-accepted true refusal later x e = absurd cc
+refused_if-accepted false refusal later x e = (refl, e)
 
 -- where such a test accepts, nothing was found
-pub of_found-accepted : (number : ℕ) (f : Found) → of_found number f ≡ Accepted → f ≡ Nothing
-of_found-accepted number Nothing e = refl
-of_found-accepted number (At row column) e = let z : ◌≡◌ {A = ℕ} 0 1 = cc in absurd (omega arith)
+pub of_found-accepted : (refusal : Place → Refusal) (f : Option Place) → of_found refusal f ≡ accepted → f ≡ None
+of_found-accepted refusal None e = refl
+of_found-accepted refusal (Some p) e = absurd cc
 
-pub and_then-accepted : (v later : Verdict) → and_then v later ≡ Accepted → (v ≡ Accepted) × (later ≡ Accepted)
-and_then-accepted Accepted later e = (refl, e)
-and_then-accepted (Refused number row column) later e = let z : ◌≡◌ {A = ℕ} 0 1 = cc in absurd (omega arith)
+pub and_then-accepted : {A : Type 0} (v : Verdict) (later : Result A Refusal) (x : A) → and_then v later ≡ Ok x → (v ≡ accepted) × (later ≡ Ok x)
+and_then-accepted (Ok u) later x e = (refl, e)
+and_then-accepted (Err refusal) later x e = absurd cc
 
--- ---- no number is 0, so that 0 says that a call is accepted
-abbrev pub AcceptedByZero : Verdict → Type 0
-AcceptedByZero v = number_of v ≡ 0 → v ≡ Accepted
+-- no number is 0, so that 0 says that a call is accepted
+pub some_number : (refusal : Refusal) → number refusal ≡ 0 → ⊥
+some_number BadSize e = cc
+some_number TooShort e = cc
+some_number BadCentre e = cc
+some_number TooFar e = cc
+some_number BadKernel e = cc
+some_number (BadSample p) e = cc
+some_number TooLarge e = cc
+some_number Outside e = cc
+some_number TooSteep e = cc
+some_number Malformed e = cc
+some_number BadBackground e = cc
+some_number OtherSize e = cc
+some_number (BelowThreshold p) e = cc
+some_number BadMove e = cc
+some_number BadPlane e = cc
 
-pub by_zero_if : (t : Bool) (number : ℕ) (later : Verdict) → (number ≡ 0 → ⊥) → AcceptedByZero later → AcceptedByZero (refused_if t number later)
-by_zero_if true number later some z e = absurd (some e)
-by_zero_if false number later some z e = z e
-
-pub by_zero_found : (number : ℕ) (f : Found) → (number ≡ 0 → ⊥) → AcceptedByZero (of_found number f)
-by_zero_found number Nothing some e = refl
-by_zero_found number (At row column) some e = absurd (some e)
-
-pub by_zero_then : (v later : Verdict) → AcceptedByZero v → AcceptedByZero later → AcceptedByZero (and_then v later)
-by_zero_then Accepted later some z = z
-by_zero_then (Refused number row column) later some z = some
+pub accepted_by_zero : (v : Verdict) → number_of v ≡ 0 → v ≡ accepted
+accepted_by_zero (Ok u) e = refl
+accepted_by_zero (Err refusal) e = absurd (some_number refusal e)

@@ -1,63 +1,93 @@
--- Verdicts: the order of judging, and what document 01 answers under each. Assumes nothing.
-use Rattle.std.specs.Prelude.{ℕ, ◌≡◌, Bool, true, false, cond, eqb}
-use Rattle.refusals.specs.declared.Found.{Found}
-use Rattle.refusals.specs.declared.Found.TheVariants.{Nothing, At}
-use Rattle.refusals.specs.declared.Verdict.{Verdict}
-use Rattle.refusals.specs.declared.Verdict.TheVariants.{Accepted, Refused}
+-- Verdicts: the number of each refusal, the order of judging, and what document 01 answers under each verdict. Assumes nothing.
+use Rattle.std.specs.Prelude.{ℕ, ◌≡◌, Bool, true, false, cond, eqb, Option, Some, None, Result, Ok, Err}
+use Rattle.refusals.specs.declared.Place.{Place}
+use Rattle.refusals.specs.declared.Refusal.{Refusal}
+use Rattle.refusals.specs.declared.Refusal.TheVariants.{BadSize, TooShort, BadCentre, TooFar, BadKernel, BadSample, TooLarge, Outside, TooSteep, Malformed, BadBackground, OtherSize, BelowThreshold, BadMove, BadPlane}
 
--- refused under a number where its test holds; else what the later tests say. A chain of these, the lowest number first, answers the
--- lowest number that applies
-abbrev pub refused_if : Bool → ℕ → Verdict → Verdict
-refused_if true number later = Refused number 0 0
-refused_if false number later = later
+-- document 01's number of a refusal
+abbrev pub number : Refusal → ℕ
+number BadSize = 1
+number TooShort = 2
+number BadCentre = 3
+number TooFar = 4
+number BadKernel = 5
+number (BadSample p) = 6
+number TooLarge = 6
+number Outside = 7
+number TooSteep = 8
+number Malformed = 9
+number BadBackground = 12
+number OtherSize = 14
+number (BelowThreshold p) = 15
+number BadMove = 16
+number BadPlane = 17
 
--- refused under a number that names a sample, by its row and column, where one was found: 6, and 15 of levelling
-abbrev pub of_found : ℕ → Found → Verdict
-of_found number Nothing = Accepted
-of_found number (At row column) = Refused number row column
+-- the place of a sample that a refusal names, row 0 and column 0 where it names none
+abbrev pub place : Refusal → Place
+place (BadSample p) = p
+place (BelowThreshold p) = p
+place _ = record { row = 0; column = 0 }
 
--- one verdict, and then another: the first stands where it is a refusal
-abbrev pub and_then : Verdict → Verdict → Verdict
-and_then Accepted later = later
-and_then (Refused number row column) later = Refused number row column
+-- what the tests say of a call: accepted, or refused
+abbrev pub Verdict : Type 0
+Verdict = Result Unit Refusal
 
--- the number that a call answers, 0 when accepted
-abbrev pub number_of : Verdict → ℕ
-number_of Accepted = 0
-number_of (Refused number row column) = number
+abbrev pub accepted : Verdict
+accepted = Ok tt
 
-abbrev pub row_of : Verdict → ℕ
-row_of Accepted = 0
-row_of (Refused number row column) = row
+-- refused where its test holds; else what the later tests say. A chain of these, the lowest number first, answers the lowest number that applies
+abbrev pub refused_if : {A : Type 0} → Bool → Refusal → Result A Refusal → Result A Refusal
+refused_if true refusal later = Err refusal
+refused_if false refusal later = later
 
-abbrev pub column_of : Verdict → ℕ
-column_of Accepted = 0
-column_of (Refused number row column) = column
+-- refused by its place where a sample was found: 6, and 15 of levelling
+abbrev pub of_found : (Place → Refusal) → Option Place → Verdict
+of_found refusal None = accepted
+of_found refusal (Some p) = Err (refusal p)
 
--- a figure or a buffer by the verdict: `new` when accepted; when refused `old`, a buffer as it was or a figure of 0
-abbrev pub when_accepted : {A : Type 0} → Verdict → A → A → A
-when_accepted Accepted new old = new
-when_accepted (Refused number row column) new old = old
+-- one verdict, and then what follows it: the first stands where it is a refusal
+abbrev pub and_then : {A : Type 0} → Verdict → Result A Refusal → Result A Refusal
+and_then (Ok u) later = later
+and_then (Err refusal) later = Err refusal
 
--- what a scan found, as figures: whether there is such a sample, and its row and its column, 0 where there is none
-abbrev pub is_found : Found → Bool
-is_found Nothing = false
-is_found (At row column) = true
+-- what an accepted call answers
+abbrev pub answer_by : {A : Type 0} → Verdict → A → Result A Refusal
+answer_by (Ok u) x = Ok x
+answer_by (Err refusal) x = Err refusal
 
-abbrev pub found_row : Found → ℕ
-found_row Nothing = 0
-found_row (At row column) = row
+-- the number, the row and the column that a call answers, 0 when accepted
+abbrev pub number_of : {A : Type 0} → Result A Refusal → ℕ
+number_of (Ok x) = 0
+number_of (Err refusal) = number refusal
 
-abbrev pub found_column : Found → ℕ
-found_column Nothing = 0
-found_column (At row column) = column
+abbrev pub row_of : {A : Type 0} → Result A Refusal → ℕ
+row_of (Ok x) = 0
+row_of (Err refusal) = (place refusal).row
 
--- the figures of a verdict where `lowest` is the lowest number that applies, and `named` tells what a number names
-pub record Figures (lowest : ℕ) (named : ℕ → Found) (v : Verdict) : Type 0 where
+abbrev pub column_of : {A : Type 0} → Result A Refusal → ℕ
+column_of (Ok x) = 0
+column_of (Err refusal) = (place refusal).column
+
+-- a figure or a buffer by the answer: `new` when accepted; when refused `old`, a buffer as it was or a figure of 0
+abbrev pub when_accepted : {A B : Type 0} → Result B Refusal → A → A → A
+when_accepted (Ok x) new old = new
+when_accepted (Err refusal) new old = old
+
+-- what a scan found, as figures: whether there is such a sample, and its place, row 0 and column 0 where there is none
+abbrev pub is_found : Option Place → Bool
+is_found None = false
+is_found (Some p) = true
+
+abbrev pub found_place : Option Place → Place
+found_place None = record { row = 0; column = 0 }
+found_place (Some p) = p
+
+-- the figures of an answer where `lowest` is the lowest number that applies, and `named` tells what a number names
+pub record Figures {A : Type 0} (lowest : ℕ) (named : ℕ → Option Place) (v : Result A Refusal) : Type 0 where
   pub number : number_of v ≡ lowest
-  pub row : row_of v ≡ found_row (named lowest)
-  pub column : column_of v ≡ found_column (named lowest)
+  pub row : row_of v ≡ (found_place (named lowest)).row
+  pub column : column_of v ≡ (found_place (named lowest)).column
 
 -- "row and column are 0 except under 6"
-abbrev pub under_six : Found → ℕ → Found
-under_six found number = cond (eqb number 6) found Nothing
+abbrev pub under_six : Option Place → ℕ → Option Place
+under_six found number = cond (eqb number 6) found None

@@ -1,8 +1,7 @@
 -- The tests behind the numbers that several calls share, each true where its number applies. Assumes nothing.
-use Rattle.std.specs.Prelude.{ℕ, zero, suc, ◌*◌, ◌/◌, ◌%◌, ◌≤◌, ◌<◌, Bool, ◌||◌, cond, List, ltb, eqb, ℤ, pos, nat_abs, ◌≤ℤ◌}
+use Rattle.std.specs.Prelude.{ℕ, zero, suc, ◌*◌, ◌/◌, ◌%◌, ◌≤◌, ◌<◌, Bool, ◌||◌, cond, List, ltb, eqb, Option, Some, None, ℤ, pos, nat_abs, ◌≤ℤ◌}
 use Rattle.lists.specs.Line.{line}
-use Rattle.refusals.specs.declared.Found.{Found}
-use Rattle.refusals.specs.declared.Found.TheVariants.{Nothing, At}
+use Rattle.refusals.specs.declared.Place.{Place}
 
 -- 1: a side of 0 or over `most`
 abbrev pub side_beyond : ℕ → ℕ → Bool
@@ -29,12 +28,12 @@ unfoldable pub beyond_of : ℕ → ℤ → Bool
 beyond_of limit v = ltb limit (nat_abs v)
 
 -- the first of n places, from place k on, at which a test holds, told by its row and its column
-unfoldable pub first_from : (ℕ → Bool) → (ℕ → ℕ) → (ℕ → ℕ) → ℕ → ℕ → Found
-first_from test row column k zero = Nothing
-first_from test row column k (suc n) = cond (test k) (At (row k) (column k)) (first_from test row column (suc k) n)
+unfoldable pub first_from : (ℕ → Bool) → (ℕ → ℕ) → (ℕ → ℕ) → ℕ → ℕ → Option Place
+first_from test row column k zero = None
+first_from test row column k (suc n) = cond (test k) (Some (record { row = row k; column = column k })) (first_from test row column (suc k) n)
 
 -- 6: the first sample of a picture beyond ±limit in row order, with its row and column; a line is a picture of height 1
-unfoldable pub first_bad : ℕ → ℕ → ℕ → List ℤ → Found
+unfoldable pub first_bad : ℕ → ℕ → ℕ → List ℤ → Option Place
 first_bad limit width height picture = first_from (λ k. beyond_of limit (line picture k)) (λ k. k / width) (λ k. k % width) 0 (height * width)
 
 -- the first n samples are within ±limit, as an accepted picture's are; past the end of a list there stands no sample, read as 0

@@ -1,23 +1,85 @@
-// What every public call shares when it judges its input: the verdict, the size test (number 1), the range test (numbers 4 and 6), and
-// the scan that names the first sample beyond its range. Sizes and places are counts of samples; a limit is in the unit of what it limits.
+// What every public call shares when it judges its input: the refusals with document 01's numbers, the size test (number 1), the range test (numbers 4
+// and 6), and the scan that names the first sample beyond its range. Sizes and places are counts of samples; a limit is in the unit of what it limits.
 #![tactic(auto)]
 
-ghost use Rattle.std.specs.Prelude.{◌≡◌, ◌*◌, ◌≤◌, length, nat_abs};
+ghost use Rattle.std.specs.Prelude.{◌≡◌, ◌*◌, ◌≤◌, true, length, nat_abs};
 ghost use Rattle.refusals.specs.Tests.{side_beyond, bad_side, bad_size, beyond_of, first_bad, AllWithin, Limit};
-ghost use Rattle.refusals.specs.Judging.{of_found};
+ghost use Rattle.refusals.specs.Judging.{number, place, of_found};
 
-// What the tests say of a call: accepted, or refused under a number, with a row and a column that are 0 where the number names no sample.
-#[derive(Clone, Copy)]
-pub enum Verdict {
-    Accepted,
-    Refused(u32, usize, usize),
+// Where a sample stands in a picture.
+#[derive(Clone, Copy, PartialEq, Eq)]
+pub struct Place {
+    pub row: usize,
+    pub column: usize,
 }
 
-// What is found of the samples that a number is about: nothing, or the row and the column of the first.
-#[derive(Clone, Copy)]
-pub enum Found {
-    Nothing,
-    At(usize, usize),
+// Why a call is refused.
+#[derive(Clone, Copy, PartialEq, Eq)]
+pub enum Refusal {
+    // 1: a side of 0, or over the most that the call takes.
+    BadSize,
+    // 2: a lent buffer that is too short.
+    TooShort,
+    // 3: a centre outside the picture.
+    BadCentre,
+    // 4: a move, a shear or a step beyond its range.
+    TooFar,
+    // 5: a kernel that there is not.
+    BadKernel,
+    // 6: a sample beyond its range, the first by its place.
+    BadSample(Place),
+    // 6 of a forecast: a largest sample size beyond its range.
+    TooLarge,
+    // 7: a point outside the picture, or a place outside the line.
+    Outside,
+    // 8: a line too steep to be levelled.
+    TooSteep,
+    // 9: a line of the line program that is not well formed.
+    Malformed,
+    // 12: a background beyond its range.
+    BadBackground,
+    // 14: a ticket of another size.
+    OtherSize,
+    // 15: a sample on the line below the threshold, the first by its place.
+    BelowThreshold(Place),
+    // 16: a move of a picture that there is not.
+    BadMove,
+    // 17: a plane that there is not.
+    BadPlane,
+}
+
+impl Refusal {
+    // Document 01's number.
+    pub fn number(self) -> u32
+        ensures { result ≡ number self }
+    {
+        match self {
+            Refusal::BadSize => 1,
+            Refusal::TooShort => 2,
+            Refusal::BadCentre => 3,
+            Refusal::TooFar => 4,
+            Refusal::BadKernel => 5,
+            Refusal::BadSample(_) | Refusal::TooLarge => 6,
+            Refusal::Outside => 7,
+            Refusal::TooSteep => 8,
+            Refusal::Malformed => 9,
+            Refusal::BadBackground => 12,
+            Refusal::OtherSize => 14,
+            Refusal::BelowThreshold(_) => 15,
+            Refusal::BadMove => 16,
+            Refusal::BadPlane => 17,
+        }
+    }
+
+    // The place that it names, row 0 and column 0 where it names none.
+    pub fn place(self) -> Place
+        ensures { result ≡ place self }
+    {
+        match self {
+            Refusal::BadSample(place) | Refusal::BelowThreshold(place) => place,
+            _ => Place { row: 0, column: 0 },
+        }
+    }
 }
 
 // Whether a side is 0 or over `most` samples.
@@ -46,64 +108,55 @@ pub fn beyond(v: i32, limit: i32) -> bool
     requires { Limit limit }
     ensures { result ≡ beyond_of (nat_abs limit) v }
 {
-    limit < v || v < 0 - limit
+    limit < v || v < -limit
 }
 
-// How many samples of a row are seen at once to be within plus or minus the limit: all of them, or none. A loop that never leaves early takes several
-// samples at a time; for a row of fewer than 8 that would not pay, and it is not looked at.
-fn seen_within(row: &[i32], limit: i32) -> usize
+// Whether a row is seen at once to be within plus or minus the limit. A loop that never leaves early takes several samples at a time; for a row of fewer
+// than 8 that would not pay, and it is not looked at.
+fn seen_within(row: &[i32], limit: i32) -> bool
     requires { Limit limit }
-    ensures { (result ≤ length row.now) × AllWithin (nat_abs limit) result row.now }
+    ensures { result ≡ true → AllWithin (nat_abs limit) (length row.now) row.now }
 {
     if row.len() < 8 {
-        return 0;
+        return false;
     }
     let mut far = false;
-    let mut k: usize = 0;
-    while k < row.len() {
-        far = far | beyond(row[k], limit);
-        k += 1;
+    for v in row {
+        far = far | beyond(*v, limit);
     }
-    if far { 0 } else { row.len() }
+    !far
 }
 
 // The first sample beyond plus or minus the limit, in row order: rows that are seen at once to be within it are passed over, the others walked. A
 // line is scanned as a picture of height 1, and the pictures of a block as one, each below the one before it.
-pub fn scan(picture: &[i32], width: usize, height: usize, limit: i32) -> Found
+pub fn scan(picture: &[i32], width: usize, height: usize, limit: i32) -> Option<Place>
     requires { (width ≤ 1024) × (height ≤ 16384) × (height * width ≤ length picture.now) × Limit limit }
     ensures { result ≡ first_bad (nat_abs limit) width height picture.now }
 {
-    let mut found = false;
-    let mut row: usize = 0;
-    let mut column: usize = 0;
-    'rows: while row < height {
+    let mut found = None;
+    'rows: for row in 0..height {
         let start = row * width;
-        let end = start + width;
-        column = seen_within(&picture[start..end], limit);
-        while column < width {
-            if beyond(picture[start + column], limit) {
-                found = true;
+        let samples = &picture[start..start + width];
+        if seen_within(samples, limit) {
+            continue;
+        }
+        for (column, v) in samples.iter().enumerate() {
+            if beyond(*v, limit) {
+                found = Some(Place { row, column });
                 break 'rows;
             }
-            column += 1;
         }
-        row += 1;
     }
-    if found {
-        Found::At(row, column)
-    } else {
-        Found::Nothing
-    }
+    found
 }
 
-// Number 6, where nothing was refused before: the verdict of the scan.
-pub fn scanned(picture: &[i32], width: usize, height: usize, limit: i32) -> Verdict
+// Number 6, where nothing was refused before: what the scan finds.
+pub fn scanned(picture: &[i32], width: usize, height: usize, limit: i32) -> Result<(), Refusal>
     requires { (width ≤ 1024) × (height ≤ 16384) × (height * width ≤ length picture.now) × Limit limit }
-    ensures { result ≡ of_found 6 (first_bad (nat_abs limit) width height picture.now) }
+    ensures { result ≡ of_found Refusal.BadSample (first_bad (nat_abs limit) width height picture.now) }
 {
-    let found = scan(picture, width, height, limit);
-    match found {
-        Found::Nothing => Verdict::Accepted,
-        Found::At(row, column) => Verdict::Refused(6, row, column),
+    match scan(picture, width, height, limit) {
+        None => Ok(()),
+        Some(place) => Err(Refusal::BadSample(place)),
     }
 }

@@ -6,48 +6,48 @@
 //     window_of     the part of a row that its outputs are weighed from
 //     set_in        a line read into its row
 //     treat         a row prepared, and a part of it weighed where it stands
-// A kernel is 0 linear, 1 Keys or 2 cubic spline; d is a move in 4,096ths of a sample, and f the fraction of a sample in the same unit.
+// d is a move in 4,096ths of a sample, and f the fraction of a sample in the same unit.
 #![tactic(auto)]
 
-ghost use Rattle.std.specs.Prelude.{◌≡◌, cond, ℕ, ◌+◌, ◌*◌, ◌%◌, ◌≤◌, ◌<◌, length, pos, nat_abs, ◌≤ℤ◌, ◌<ℤ◌};
+ghost use Rattle.std.specs.Prelude.{◌≡◌, cond, ℕ, ◌+◌, ◌*◌, ◌%◌, ◌≤◌, ◌<◌, length, pos, nat_abs};
 ghost use Rattle.refusals.specs.Tests.{AllWithin};
 ghost use Rattle.settings.specs.declared.Border.TheVariants.{Background};
-ghost use Rattle.kernels.specs.Kernel.{kernel_of};
+ghost use Rattle.kernels.specs.declared.Kernel.TheVariants.{Spline};
 ghost use Rattle.lists.specs.Grid.{line_of};
 ghost use Rattle.moves.specs.Border.{far};
-ghost use Rattle.moves.specs.InPlace.{weighed_size, prepared, turn};
+ghost use Rattle.moves.specs.InPlace.{Fraction, weighed_size, prepared, turn};
 ghost use Rattle.moves.specs.Row.{places, set_in, start_at, held, weighed_part, Holds, Covers, joined_of, loaded_of, Framed, Alike, PartWithin};
 
+use kernels::Kernel;
 use moves::Part;
 use settings::Border;
 
-// A line as its kernel weighs it: kernels 0 and 1 the samples, kernel 2 their coefficients.
-pub fn prepare(line: &mut [i32], kernel: u32)
-    requires in_bounds { (1 ≤ length line.old) × (length line.old ≤ 3072) × (kernel ≤ 2) }
-    requires all_within { kernel ≡ 2 → AllWithin 294912 (length line.old) line.old }
-    ensures { line.new ≡ prepared (kernel_of kernel) line.old }
+// A line as its kernel weighs it: linear and Keys the samples, the spline their coefficients.
+pub fn prepare(line: &mut [i32], kernel: Kernel)
+    requires in_bounds { (1 ≤ length line.old) × (length line.old ≤ 3072) }
+    requires all_within { kernel ≡ Spline → AllWithin 294912 (length line.old) line.old }
+    ensures { line.new ≡ prepared kernel line.old }
 {
-    if kernel == 2 {
-        prefilter::coefficients(line);
+    match kernel {
+        Kernel::Linear | Kernel::Keys => {}
+        Kernel::Spline => prefilter::coefficients(line),
     }
 }
 
 // A part of a prepared row weighed where it stands, as a line of its own: right at each place whose neighbours lie in the part too.
-pub fn weigh_part(row: &mut [i32], kernel: u32, f: i32, part: Part)
-    requires lo_lt_hi { (part.lo < part.hi) × (part.hi ≤ length row.old) × (kernel ≤ 2) × (pos 0 ≤ℤ f) × (f <ℤ pos 4096) }
-    requires part_within { PartWithin (weighed_size (kernel_of kernel)) part row.old }
-    ensures { row.new ≡ weighed_part (kernel_of kernel) f part row.old }
+pub fn weigh_part(row: &mut [i32], kernel: Kernel, f: i32, part: Part)
+    requires lo_lt_hi { (part.lo < part.hi) × (part.hi ≤ length row.old) × Fraction f }
+    requires part_within { PartWithin (weighed_size kernel) part row.old }
+    ensures { row.new ≡ weighed_part kernel f part row.old }
 {
-    let lo = part.lo;
-    let hi = part.hi;
-    weighing::weigh_line(&mut row[lo..hi], kernel, f);
+    weighing::weigh_line(&mut row[part.lo..part.hi], kernel, f);
 }
 
 // A row of samples prepared, and a part of it weighed: all of its move but the turn by whole samples.
-pub fn treat(row: &mut [i32], kernel: u32, f: i32, part: Part)
-    requires row_len_bound { (length row.old ≤ 3072) × (part.lo < part.hi) × (part.hi ≤ length row.old) × (kernel ≤ 2) × (pos 0 ≤ℤ f) × (f <ℤ pos 4096) }
-    requires part_within { PartWithin 294912 (loaded_of (kernel_of kernel) (length row.old) part) row.old }
-    ensures { row.new ≡ weighed_part (kernel_of kernel) f part (prepared (kernel_of kernel) row.old) }
+pub fn treat(row: &mut [i32], kernel: Kernel, f: i32, part: Part)
+    requires row_len_bound { (length row.old ≤ 3072) × (part.lo < part.hi) × (part.hi ≤ length row.old) × Fraction f }
+    requires part_within { PartWithin 294912 (loaded_of kernel (length row.old) part) row.old }
+    ensures { row.new ≡ weighed_part kernel f part (prepared kernel row.old) }
 {
     prepare(row, kernel);
     weigh_part(row, kernel, f, part);
@@ -66,21 +66,15 @@ fn turn_on(d: i64, n: usize) -> usize
     requires { (1 ≤ n) × (n ≤ 1024) × (nat_abs d ≤ 1099511627776) }
     ensures { (result ≡ (turn (3 * n) d + n) % (3 * n)) × (result < 3 * n) }
 {
-    let turned = turn_of(d, 3 * n) + n;
-    if turned < 3 * n {
-        turned
-    } else {
-        turned - 3 * n
-    }
+    (turn_of(d, 3 * n) + n) % (3 * n)
 }
 
 // Whether a move is by n samples or more, either way.
 fn is_far(n: usize, d: i64) -> bool
-    requires { (n ≤ 1024) × (nat_abs d ≤ 1099511627776) }
+    requires { n ≤ 1024 }
     ensures { result ≡ far n d }
 {
-    let end = 4096 * n as i64;
-    end <= d || d <= 0 - end
+    4096 * n as u64 <= d.unsigned_abs()
 }
 
 // A move under background, held to n samples.
@@ -88,10 +82,7 @@ fn held_to(n: usize, d: i64) -> i64
     requires { (n ≤ 1024) × (nat_abs d ≤ 4194304) }
     ensures { (result ≡ cond (far n d) (pos (4096 * n)) d) × (nat_abs result ≤ 4194304) }
 {
-    if is_far(n, d) {
-        return 4096 * n as i64;
-    }
-    d
+    if is_far(n, d) { 4096 * n as i64 } else { d }
 }
 
 // How many places a line of n samples takes while it is moved: three times as many between background samples.
@@ -134,15 +125,12 @@ pub fn window_of(border: Border, n: usize, start: usize) -> Part
     ensures { Covers border n start result }
 {
     let m = places_of(border, n);
-    if start == 0 {
-        return Part { lo: 0, hi: m };
-    }
-    if m < start + n + 2 {
+    if start == 0 || m < start + n + 2 {
         return Part { lo: 0, hi: m };
     }
     Part {
-        lo: arith::least(start - 1, n),
-        hi: arith::most(start + n + 2, 2 * n),
+        lo: (start - 1).min(n),
+        hi: (start + n + 2).max(2 * n),
     }
 }
 
@@ -151,20 +139,19 @@ pub fn joined(a: Part, b: Part) -> Part
     ensures { result ≡ joined_of a b }
 {
     Part {
-        lo: arith::least(a.lo, b.lo),
-        hi: arith::most(a.hi, b.hi),
+        lo: a.lo.min(b.lo),
+        hi: a.hi.max(b.hi),
     }
 }
 
 // The part of a row of m places that has to be set in: all of it for the spline.
-pub fn loaded_of(kernel: u32, m: usize, part: Part) -> Part
-    requires { kernel ≤ 2 }
-    ensures { result ≡ loaded_of (kernel_of kernel) m part }
+pub fn loaded_of(kernel: Kernel, m: usize, part: Part) -> Part
+    ensures { result ≡ loaded_of kernel m part }
 {
-    if kernel == 2 {
-        return Part { lo: 0, hi: m };
+    match kernel {
+        Kernel::Linear | Kernel::Keys => part,
+        Kernel::Spline => Part { lo: 0, hi: m },
     }
-    part
 }
 
 // Background of the value b on both sides of the middle n of 3n places, as far as the part goes.
@@ -172,11 +159,8 @@ pub fn frame(row: &mut [i32], n: usize, b: i32, part: Part)
     requires { (length row.old ≡ 3 * n) × (n ≤ 1024) × (part.lo ≤ n) × (2 * n ≤ part.hi) × (part.hi ≤ 3 * n) }
     ensures { Framed n b part row.new }
 {
-    let lo = part.lo;
-    let hi = part.hi;
-    let end = 2 * n;
-    lists::fill_with(&mut row[lo..n], n - lo, b);
-    lists::fill_with(&mut row[end..hi], hi - end, b);
+    row[part.lo..n].fill(b);
+    row[2 * n..part.hi].fill(b);
 }
 
 // A line of n samples set between n samples of the value b on each side.
@@ -194,8 +178,7 @@ fn set_between(
     ensures { Alike part row.new (set_in (Background b) (line_of at along n picture.now)) }
 {
     frame(row, n, b, part);
-    let end = 2 * n;
-    lists::load_line(picture, at, along, &mut row[n..end]);
+    lists::load_line(picture, at, along, &mut row[n..2 * n]);
 }
 
 // The line of n samples that starts at the place `at` of a picture, its places `along` apart, set into its row as its border has it, as far as

@@ -13,7 +13,8 @@ use Rattle.arith.specs.Move.{fraction, whole}
 use Rattle.lists.specs.Tab.{tab}
 use Rattle.lists.specs.Line.{wrap}
 use Rattle.settings.specs.declared.Border.TheVariants.{Wrapped}
-use Rattle.kernels.specs.Kernel.{weigh, Linear}
+use Rattle.kernels.specs.declared.Kernel.TheVariants.{Linear}
+use Rattle.kernels.specs.Kernel.{weigh}
 use Rattle.spline.specs.Coefficients.{filter, run, u, down, back, v, scaled, coefficient}
 use Rattle.moves.specs.Move.{first, mixed, source, moved, move}
 use Rattle.moves.specs.Border.{framed, far, bordered, move_in, gone, fraction_in}

@@ -1,7 +1,7 @@
 -- Rows under a background. Their outputs come from a model of documents 01 and 02 outside the checker. Assumes nothing.
 use Rattle.std.specs.Prelude.{List, [], ◌∷◌, pos, negsuc}
 use Rattle.settings.specs.declared.Border.TheVariants.{Background}
-use Rattle.kernels.specs.Kernel.{Linear, Keys, Spline}
+use Rattle.kernels.specs.declared.Kernel.TheVariants.{Linear, Keys, Spline}
 use Rattle.samples.specs.Starred.{Row, bordered_line, bordered_picture}
 
 abbrev pub edges : List Row

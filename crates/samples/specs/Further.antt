@@ -1,6 +1,7 @@
 -- Further rows, where a reader would doubt. Their outputs come from a model of document 01 outside the checker. Assumes nothing.
 use Rattle.std.specs.Prelude.{List, [], ◌∷◌, ℤ, pos, negsuc}
-use Rattle.kernels.specs.Kernel.{Kernel, Linear, Keys, Spline}
+use Rattle.kernels.specs.declared.Kernel.{Kernel}
+use Rattle.kernels.specs.declared.Kernel.TheVariants.{Linear, Keys, Spline}
 use Rattle.samples.specs.Starred.{Row, line}
 
 abbrev pub further : List Row

@@ -29,58 +29,27 @@ impl Setting {
     pub fn with_kernel(self, kernel: u32) -> Setting
         ensures { result ≡ with_kernel self kernel }
     {
-        let border = self.border;
-        Setting {
-            kernel,
-            cx: self.cx,
-            cy: self.cy,
-            a: self.a,
-            b: self.b,
-            border,
-        }
+        Setting { kernel, ..self }
     }
 
     // Another centre: column cx, row cy.
     pub fn with_centre(self, cx: usize, cy: usize) -> Setting
         ensures { result ≡ with_centre self cx cy }
     {
-        let border = self.border;
-        Setting {
-            kernel: self.kernel,
-            cx,
-            cy,
-            a: self.a,
-            b: self.b,
-            border,
-        }
+        Setting { cx, cy, ..self }
     }
 
     // Other shears, in 4,096ths.
     pub fn with_shears(self, a: i32, b: i32) -> Setting
         ensures { result ≡ with_shears self a b }
     {
-        let border = self.border;
-        Setting {
-            kernel: self.kernel,
-            cx: self.cx,
-            cy: self.cy,
-            a,
-            b,
-            border,
-        }
+        Setting { a, b, ..self }
     }
 
     // Another border.
     pub fn with_border(self, border: Border) -> Setting
         ensures { result ≡ with_border self border }
     {
-        Setting {
-            kernel: self.kernel,
-            cx: self.cx,
-            cy: self.cy,
-            a: self.a,
-            b: self.b,
-            border,
-        }
+        Setting { border, ..self }
     }
 }

@@ -13,11 +13,10 @@ use Rattle.passes.specs.Picture.{straighten}
 use Rattle.exact.specs.Limits.{Demand3}
 use Rattle.exact.proofs.Demand.{straighten-demand3}
 use Rattle.acceptance.specs.Judge.{Fit}
-use Rattle.pictures.specs.declared.Outcome.{Outcome}
-use Rattle.pictures.specs.Answer.{kernel_in, row_moves, column_moves}
+use Rattle.pictures.specs.Answer.{Outcome, kernel_in, row_moves, column_moves}
 use Rattle.pictures.proofs.Call as single
 use Rattle.arrangements.specs.Moves.{screen, stored, moved}
-use Rattle.quarters.specs.declared.Moved.{Moved}
+use Rattle.quarters.specs.Answer.{Moved, width_of, height_of}
 use Rattle.quarters.proofs.Calls.{was_area, was_front}
 use Rattle.sideways.specs.TwoCalls.{MovedFirst, OnTheMoved}
 
@@ -28,13 +27,13 @@ module _ {other : Bool} {W H m : ℕ} {s mid mid' : List ℤ} {r : Moved} {set :
   p = stored (moved m (screen W H s))
 
   abbrev n : ℕ
-  n = r.width * r.height
+  n = width_of r * height_of r
 
   -- its three passes
   abbrev passes : List ℤ → List ℤ
-  passes = straighten set.border (kernel_in set) r.width r.height (row_moves set) (column_moves set)
+  passes = straighten set.border (kernel_in set) (width_of r) (height_of r) (row_moves set) (column_moves set)
 
-  fit : Fit r.width r.height set mid' (length result) (length work)
+  fit : Fit (width_of r) (height_of r) set mid' (length result) (length work)
   fit = single.was_fit other c.second c.second_accepted
 
   -- what was handed in are the samples of the moved picture
@@ -45,7 +44,7 @@ module _ {other : Bool} {W H m : ℕ} {s mid mid' : List ℤ} {r : Moved} {set :
   samples =
       single.first-places fit result result'
       (c.second.written ∙ ap (λ v. when_accepted v (passes (take n mid') ++ drop n result) result) (single.was_accepted other c.second c.second_accepted))
-      ∙ sym (single.straighten_takes set.border (kernel_in set) r.width r.height (row_moves set) (column_moves set) mid' fit.width.0 fit.height.0)
+      ∙ sym (single.straighten_takes set.border (kernel_in set) (width_of r) (height_of r) (row_moves set) (column_moves set) mid' fit.width.0 fit.height.0)
       ∙ ap passes front
 
   within : (i : ℕ) → i < n → nat_abs (line p i) ≤ 32767
@@ -56,6 +55,6 @@ module _ {other : Bool} {W H m : ℕ} {s mid mid' : List ℤ} {r : Moved} {set :
       record {
         samples = samples;
         demand3 =
-            subst (λ (v : List ℤ). Demand3 set.border (kernel_in set) r.width r.height (row_moves set) (column_moves set) p v) (sym samples)
-            (straighten-demand3 set.border (kernel_in set) r.width r.height (row_moves set) (column_moves set) p fit.width.0 fit.height.0 fit.setting.background within);
+            subst (λ (v : List ℤ). Demand3 set.border (kernel_in set) (width_of r) (height_of r) (row_moves set) (column_moves set) p v) (sym samples)
+            (straighten-demand3 set.border (kernel_in set) (width_of r) (height_of r) (row_moves set) (column_moves set) p fit.width.0 fit.height.0 fit.setting.background within);
       }

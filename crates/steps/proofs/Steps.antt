@@ -7,17 +7,20 @@ use native.Mathlib.Omega.{arith, by_contra}
 use lib.Dec.{T, ltb, ltb→lt}
 use lib.IntN.{ℤ, pos, negsuc, neg_ℤ, nat_abs, ◌-ℤ◌, ◌*ℤ◌, neg_ℤ-neg_ℤ, +ℤ_idl}
 use lib.Signed.{◌≤ℤ◌, ◌<ℤ◌}
-use Rattle.arith.proofs.Bridge.{bridge, all1, all2, all3, all4}
+use Rattle.arith.proofs.Bridge.{bridge, all2, all3, all4}
 use Rattle.arith.proofs.Laws.{nat_abs-*ℤ}
+use Rattle.std.specs.Prelude.{Result, Ok, Err}
 use Rattle.refusals.specs.Tests.{Limit}
+use Rattle.refusals.specs.Judging.{accepted, refused_if, number_of}
+use Rattle.refusals.proofs.Judging.{refused_if-accepted}
+use Rattle.refusals.specs.declared.Refusal.{Refusal}
+use Rattle.refusals.specs.declared.Refusal.TheVariants.{TooFar}
 use Rattle.refusals.proofs.Tests.{beyond_good}
 use Rattle.lists.proofs.Table.{every, at}
 use Rattle.settings.specs.declared.Setting.{Setting}
 use Rattle.settings.specs.Setting.{with_shears}
 use Rattle.steps.specs.Table.{sines}
-use Rattle.steps.specs.Step.{entry, S, Nearest, dividend, divisor, SineRule, beyond, sine_of, SineAnswer, change_of}
-use Rattle.steps.specs.declared.Change.{Change}
-use Rattle.steps.specs.declared.StepSine.TheVariants.{Value, Refused}
+use Rattle.steps.specs.Step.{entry, S, Nearest, dividend, divisor, SineRule, beyond, sine_of, SineAnswer, change_of, setting_after}
 
 -- ---- the table: the rule as a test, which passes at every entry
 follows : ℕ → ℕ → Bool
@@ -76,26 +79,37 @@ nearest_least p r s u n d = by_contra _ _ (λ h. d (nearest_only p r s u n (omeg
 pub sine_no_tie : (t u : ℤ) → beyond t ≡ false → ¬ (2 * nat_abs (divisor t *ℤ u -ℤ dividend t) ≡ nat_abs (divisor t))
 sine_no_tie t u e = nearest_no_tie (dividend t) (divisor t) (S t) u (sine_nearest t e)
 
--- ---- for the code: the limit of a step, a step turned, and S by its sign
+-- ---- for the code: the limit of a step, and S by its sign
 pub step-limit : Limit (pos 1697)
 step-limit = record { from = record { le = tt }; to = record { le = tt } }
-
-pub turned-listed : (t : ℤ) → nat_abs t ≤ 1697 → t <ℤ pos 0 → (pos 0 ≤ℤ (pos 0 -ℤ t)) × (nat_abs (pos 0 -ℤ t) ≤ 1697)
-turned-listed = all1 _ (simp bridge (omega arith))
 
 pub sine_above : (t : ℤ) → pos 0 ≤ℤ t → pos (entry (nat_abs t)) ≡ S t
 unfolding S
 sine_above (pos t) h = refl
 sine_above (negsuc t) h = absurd h.le
 
-pub sine_below : (t : ℤ) → pos 0 ≤ℤ (pos 0 -ℤ t) → pos 0 -ℤ pos (entry (nat_abs (pos 0 -ℤ t))) ≡ S t
-sine_below t h =
-    ap (λ (s : ℤ). pos 0 -ℤ s) (sine_above (pos 0 -ℤ t) h ∙ ap S (+ℤ_idl (neg_ℤ t)) ∙ sine_odd t)
-    ∙ +ℤ_idl (neg_ℤ (neg_ℤ (S t))) ∙ neg_ℤ-neg_ℤ (S t)
+pub sine_below : (t : ℤ) → t <ℤ pos 0 → pos 0 -ℤ pos (entry (nat_abs t)) ≡ S t
+unfolding S
+sine_below (pos t) h = absurd (above t h)
+  where
+    above : (t : ℕ) → pos t <ℤ pos 0 → ⊥
+    above = simp bridge (omega arith)
+sine_below (negsuc t) h = +ℤ_idl (neg_ℤ (pos (entry (suc t))))
+
+-- ---- what the test tells: an accepted step is within its range, a refused one beyond it
+pub taken : (t : ℤ) {u : Unit} → Ok u ≡ refused_if (beyond t) TooFar accepted → beyond t ≡ false
+taken t e = (refused_if-accepted (beyond t) TooFar accepted _ (sym e)).0
+
+pub refused : (t : ℤ) (refusal : Refusal) → Err refusal ≡ refused_if (beyond t) TooFar accepted → (beyond t ≡ true) × (refusal ≡ TooFar)
+refused t refusal e = by (beyond t) e
+  where
+    by : (far : Bool) → Err refusal ≡ refused_if far TooFar accepted → (far ≡ true) × (refusal ≡ TooFar)
+    by true e = (refl, cc)
+    by false e = absurd cc
 
 -- ---- the two answers of `sine`
 module _ (t : ℤ) where
-  pub answer-refused : beyond t ≡ true → SineAnswer t (Refused 4)
+  pub answer-refused : beyond t ≡ true → SineAnswer t (Err TooFar)
   unfolding sine_of
   answer-refused e =
       record {
@@ -105,7 +119,7 @@ module _ (t : ℤ) where
         nearest = λ f. absurd (true≢false (sym e ∙ f));
       }
 
-  pub answer_value : beyond t ≡ false → SineAnswer t (Value (S t))
+  pub answer_value : beyond t ≡ false → SineAnswer t (Ok (S t))
   unfolding sine_of
   answer_value e =
       record {
@@ -117,45 +131,47 @@ module _ (t : ℤ) where
 
 -- ---- a change by step, part by part
 module _ (setting : Setting) (t : ℤ) where
-  abbrev by : Bool → Change
-  by refused = cond refused (record { number = 4; setting = setting }) (record { number = 0; setting = with_shears setting (neg_ℤ t) (S t) })
+  abbrev by : Bool → Result Setting Refusal
+  by refused = refused_if refused TooFar (Ok (with_shears setting (neg_ℤ t) (S t)))
+
+  abbrev after : Setting
+  after = setting_after setting (change_of setting t)
 
   -- number 4 just where t is beyond its range
-  pub change_number : (change_of setting t).number ≡ cond (beyond t) 4 0
+  pub change_number : number_of (change_of setting t) ≡ cond (beyond t) 4 0
   unfolding change_of
   change_number = each (beyond t)
     where
-      each : (refused : Bool) → (by refused).number ≡ cond refused 4 0
+      each : (refused : Bool) → number_of (by refused) ≡ cond refused 4 0
       each true = refl
       each false = refl
 
   -- A = -t and B = S(t), and as they were where t is refused
-  pub change_shears : ((change_of setting t).setting.a ≡ cond (beyond t) setting.a (neg_ℤ t))
-      × ((change_of setting t).setting.b ≡ cond (beyond t) setting.b (S t))
+  pub change_shears : (after.a ≡ cond (beyond t) setting.a (neg_ℤ t)) × (after.b ≡ cond (beyond t) setting.b (S t))
   unfolding change_of
   change_shears = each (beyond t)
     where
-      each : (refused : Bool) → ((by refused).setting.a ≡ cond refused setting.a (neg_ℤ t)) × ((by refused).setting.b ≡ cond refused setting.b (S t))
+      each : (refused : Bool) → ((setting_after setting (by refused)).a ≡ cond refused setting.a (neg_ℤ t))
+          × ((setting_after setting (by refused)).b ≡ cond refused setting.b (S t))
       each true = (refl, refl)
       each false = (refl, refl)
 
   -- kernel and centre are kept, refused or not
-  pub change_alone : ((change_of setting t).setting.kernel ≡ setting.kernel)
-      × ((change_of setting t).setting.cx ≡ setting.cx) × ((change_of setting t).setting.cy ≡ setting.cy)
+  pub change_alone : (after.kernel ≡ setting.kernel) × (after.cx ≡ setting.cx) × (after.cy ≡ setting.cy)
   unfolding change_of
   change_alone = each (beyond t)
     where
-      each : (refused : Bool) → ((by refused).setting.kernel ≡ setting.kernel) × ((by refused).setting.cx ≡ setting.cx) × ((by refused).setting.cy ≡ setting.cy)
+      each : (refused : Bool) → ((setting_after setting (by refused)).kernel ≡ setting.kernel)
+          × ((setting_after setting (by refused)).cx ≡ setting.cx) × ((setting_after setting (by refused)).cy ≡ setting.cy)
       each true = (refl, refl, refl)
       each false = (refl, refl, refl)
 
 -- ---- the two answers of `with_step`
 module _ (setting : Setting) (t : ℤ) where
-  pub change_refused : beyond t ≡ true → record { number = 4; setting = setting } ≡ change_of setting t
+  pub change_refused : beyond t ≡ true → Err TooFar ≡ change_of setting t
   unfolding change_of
   change_refused e = rw e refl
 
-  pub change_taken : {a b : ℤ} {r : Setting} → beyond t ≡ false → r ≡ with_shears setting a b → a ≡ neg_ℤ t → b ≡ S t
-      → record { number = 0; setting = r } ≡ change_of setting t
+  pub change_taken : {a b : ℤ} {r : Setting} → beyond t ≡ false → r ≡ with_shears setting a b → a ≡ neg_ℤ t → b ≡ S t → Ok r ≡ change_of setting t
   unfolding change_of
   change_taken e q ea eb = rw (e, q, ea, eb) refl

@@ -1,13 +1,13 @@
 -- "Step t is 4,096 times the tangent of half the angle; it sets A = -t and B = S(t), with S(-t) = -S(t). S(t) is the whole number nearest
 -- 2·4,096²·t/(4,096² + t²); no tie occurs." Assumes nothing.
-use Rattle.std.specs.Prelude.{ℕ, suc, ◌*◌, ◌<◌, ◌≡◌, Bool, false, cond, ℤ, pos, negsuc, neg_ℤ, nat_abs, ◌+ℤ◌, ◌-ℤ◌, ◌*ℤ◌, get_or}
+use Rattle.std.specs.Prelude.{ℕ, suc, ◌*◌, ◌<◌, ◌≡◌, Bool, false, cond, Result, Ok, Err, ℤ, pos, negsuc, neg_ℤ, nat_abs, ◌+ℤ◌, ◌-ℤ◌, ◌*ℤ◌, get_or}
 use Rattle.refusals.specs.Tests.{beyond_of}
+use Rattle.refusals.specs.Judging.{refused_if, number_of}
+use Rattle.refusals.specs.declared.Refusal.{Refusal}
+use Rattle.refusals.specs.declared.Refusal.TheVariants.{TooFar}
 use Rattle.settings.specs.declared.Setting.{Setting}
 use Rattle.settings.specs.Setting.{with_shears}
 use Rattle.steps.specs.Table.{sines}
-use Rattle.steps.specs.declared.Change.{Change}
-use Rattle.steps.specs.declared.StepSine.{StepSine}
-use Rattle.steps.specs.declared.StepSine.TheVariants.{Value, Refused}
 
 -- the table's entry, for t from 0 to 1,697
 unfoldable pub entry : ℕ → ℕ
@@ -37,26 +37,27 @@ SineRule t s = Nearest (dividend t) (divisor t) s
 abbrev pub beyond : ℤ → Bool
 beyond t = beyond_of 1697 t
 
--- the refusal number and S of an answer
-abbrev pub sine_number : StepSine → ℕ
-sine_number (Value s) = 0
-sine_number (Refused n) = n
-
-abbrev pub sine_value : StepSine → ℤ
-sine_value (Value s) = s
-sine_value (Refused n) = pos 0
+-- S of an answer, 0 where it is refused
+abbrev pub sine_value : Result ℤ Refusal → ℤ
+sine_value (Ok s) = s
+sine_value (Err refusal) = pos 0
 
 -- the answer for every t
-unfoldable pub sine_of : ℤ → StepSine
-sine_of t = cond (beyond t) (Refused 4) (Value (S t))
+unfoldable pub sine_of : ℤ → Result ℤ Refusal
+sine_of t = refused_if (beyond t) TooFar (Ok (S t))
 
 -- what r, the answer at t, is: its case, its number and its value, which follows the rule where t is not refused
-pub record SineAnswer (t : ℤ) (r : StepSine) : Type 0 where
+pub record SineAnswer (t : ℤ) (r : Result ℤ Refusal) : Type 0 where
   pub answer : r ≡ sine_of t
-  pub number : sine_number r ≡ cond (beyond t) 4 0
+  pub number : number_of r ≡ cond (beyond t) 4 0
   pub value : sine_value r ≡ cond (beyond t) (pos 0) (S t)
   pub nearest : beyond t ≡ false → SineRule t (sine_value r)
 
--- the setting changed by step t, and as it was where t is refused
-unfoldable pub change_of : Setting → ℤ → Change
-change_of s t = cond (beyond t) (record { number = 4; setting = s }) (record { number = 0; setting = with_shears s (neg_ℤ t) (S t) })
+-- the setting changed by step t
+unfoldable pub change_of : Setting → ℤ → Result Setting Refusal
+change_of s t = refused_if (beyond t) TooFar (Ok (with_shears s (neg_ℤ t) (S t)))
+
+-- the setting after such a change, as it was where t is refused
+abbrev pub setting_after : Setting → Result Setting Refusal → Setting
+setting_after s (Ok r) = r
+setting_after s (Err refusal) = s

@@ -1,3 +1,1 @@
--- Laws of the line program's own loop.
---     Going   how a turn went
-mod Going
+-- The line program's own loop needs no laws beside those of `stream`.

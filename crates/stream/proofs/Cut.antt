@@ -1,13 +1,14 @@
 -- A line that is cut to 8,215 bytes is answered as the whole line is, however often it is cut on the way. Assumes nothing.
 use Prim.Native.Nat.{ℕ, ◌+◌, ◌-◌, ◌≤◌, ◌<◌, min}
 use mathlib.Core.Bool.{Bool, true, false}
-use mathlib.Core.List.{List, [], ◌∷◌, ◌++◌}
+use mathlib.Core.List.{List, [], ◌∷◌, ◌++◌, append_assoc}
 use mathlib.Core.Path.{◌≡◌, refl, sym, ap, ◌∙◌}
 use native.Mathlib.Omega.{arith}
 use borrow.Author.Tests.{leb-true, leb-false}
 use lib.Dec.{leb}
-use lib.ListN.{length, take, drop, length-take}
-use lib.Seq.{take_all, take-take, length-take-le, take-append-le, take-append-add, take-append_seam, take_at, paste, length_paste_head}
+use borrow.Rule.Slice.PartMut.{put_mid}
+use lib.ListN.{length, take, drop, length-append, length-take}
+use lib.Seq.{take_all, take-take, length-take-le, take-append-le, take-append-add, take-append_seam, drop-drop}
 use Rattle.format.proofs.Judged.{long_ill, answer_ill}
 use Rattle.format.specs.Answer.{answer_of}
 use Rattle.stream.specs.Steps.{cut, Held, Stands}
@@ -49,35 +50,26 @@ take_min s n m e =
 
 -- used bytes that stand, and as many of s behind them as there is room for
 pub held_stands : (carry s : List ℕ) (used n : ℕ) → used ≤ 8215 → length carry ≡ 8215 → n ≡ min (length s) (8215 - used)
-    → Stands (cut (take used carry ++ s)) carry (paste carry used s n) (used + n)
+    → Stands (cut (take used carry ++ s)) carry (put_mid used (used + n - used) carry (take n s)) (used + n)
 unfolding cut
 held_stands carry s used n h l e =
     let k : length (take used carry) ≡ used = length-take-le used carry (omega arith) in
+    let m : length (take n s) ≡ n = length-take-le n s (omega arith) in
     let all : 8215 ≡ length (take used carry) + (8215 - used) = omega arith in
     let both : take 8215 (take used carry ++ s) ≡ take used carry ++ take n s =
     ap (λ (m : ℕ). take m (take used carry ++ s)) all ∙ take-append-add (take used carry) s (8215 - used)
     ∙ ap (λ (x : List ℕ). take used carry ++ x) (sym (take_min s n (8215 - used) e)) in
-    let long : length (take used carry ++ take n s) ≡ used + n = length_paste_head carry used s n (omega arith) (omega arith) in
-    record { front = rw (both, long) refl; bytes = sym (rw both long) }
+    let long : length (take used carry ++ take n s) ≡ used + n = simp length-append (omega arith) in
+    let part : used + n - used ≡ n = omega arith in
+    record { front = rw (part, both, long) (simp (append_assoc, ← drop-drop)); bytes = rw both (sym long) }
 
 -- the first n bytes of a buffer that a text of n bytes stands in
 pub stands_take : {text before after : List ℕ} {n : ℕ} → Stands text before after n → take n after ≡ text
 stands_take {text} {before} st = rw (st.front, st.bytes) (take-append_seam text (drop (length text) before))
 
--- used bytes copied to the front of a buffer
-copied_front : (line carry : List ℕ) (used : ℕ) → used ≤ length carry → take used (paste line 0 carry used) ≡ take used carry
-copied_front line carry used h = take_at (take used carry) (drop (0 + used) line) used (length-take-le used carry h)
-
 pub cut_short : (l : List ℕ) → length (cut l) ≤ 8215
 unfolding cut
 cut_short l = simp length-take (omega arith)
-
--- a line put together in a buffer of its own
-pub joined : (line line1 carry s line2 : List ℕ) (used r : ℕ) → used ≤ length carry → line1 ≡ paste line 0 carry used
-    → Stands (cut (take used line1 ++ s)) line1 line2 r → (r ≤ 8215) × (take r line2 ≡ cut (take used carry ++ s))
-joined line line1 carry s line2 used r h e st =
-    let same : take used line1 ≡ take used carry = rw e (copied_front line carry used h) in
-    (omega (arith, st.bytes, cut_short (take used line1 ++ s)), stands_take st ∙ rw same refl)
 
 -- bytes that were kept are what they were cut from
 pub held_itself : (carry : List ℕ) (used : ℕ) → length carry ≡ 8215 → Held (take used carry) (take used carry)

@@ -7,7 +7,7 @@ use native.Mathlib.Omega.{arith}
 use borrow.Author.Tests.{le-leb}
 use borrow.Rule.Slice.PartMut.{put_mid}
 use lib.ListN.{length, take, drop, length-append, length-take, length-drop, drop_of_length-le, take-append-drop}
-use lib.Seq.{take_all, take-take, drop_at, drop-drop, take-add, length-take-le}
+use lib.Seq.{take_all, drop_at, drop-drop, length-take-le}
 use Rattle.format.proofs.Judged.{answer-short}
 use Rattle.format.specs.Answer.{answer_of}
 use Rattle.format.specs.Room.{Fitted, fitted, fitted_length}
@@ -66,7 +66,7 @@ last-held carry out out' used r l h f =
 -- ---- one step
 -- no line ends
 pub step-held : (s carry carry' out : List ℕ) (used n u : ℕ) → n ≡ line_length s → n ≡ length s
-    → Stands (cut (take used carry ++ s)) carry carry' u → Stepped s carry carry' used out out (record { taken = n; used = u; wrote = 0 })
+    → Stands (cut (take used carry ++ s)) carry carry' u → Stepped s carry carry' used u out out (record { taken = n; wrote = 0 })
 step-held s carry carry' out used n u e l st =
     let all : take n s ≡ s = take_all n s (omega arith) in
     let none : (held : List ℕ) → (answers held s ≡ []) × (rest held s ≡ held ++ s) = λ held. no_end held s (omega arith) in
@@ -81,7 +81,7 @@ step-held s carry carry' out used n u e l st =
 
 -- a line ends
 pub step_answered : (s carry out out' : List ℕ) (used n r : ℕ) → n ≡ line_length s → n < length s
-    → Finished (take n s) (take used carry) out out' r → Stepped s carry carry used out out' (record { taken = n + 1; used = 0; wrote = r })
+    → Finished (take n s) (take used carry) out out' r → Stepped s carry carry used 0 out out' (record { taken = n + 1; wrote = r })
 step_answered s carry out out' used n r e l f =
     let line : (held : List ℕ) → (answers held (take (suc (line_length s)) s) ≡ answer_of (held ++ take (line_length s) s)) × (rest held (take (suc (line_length s)) s) ≡ []) = λ held. line_end held s (omega arith) in
     record {
@@ -113,35 +113,48 @@ stands_more a b before after last wrote n r p e q =
       bytes = rw (p.bytes, q.bytes) (sym (length-append a b));
     }
 
--- a step after what the loop has done, at the parts of s and out that are lent to it; nothing is held yet
-module _ (s carry carry1 carry2 out out1 last : List ℕ) (used used1 at wrote n : ℕ) (r : Advance) (h : at < n) (l : n ≤ length s) (same : carry1 ≡ carry)
-    (done : Read (take at s) carry carry1 used used1 out out1 wrote)
-    (st : Stepped (take (n - at) (drop at s)) carry1 carry2 used1 (take (length out1 - wrote) (drop wrote out1)) last r) where
-  part : length (take (n - at) (drop at s)) ≡ n - at
-  part = simp (length-take, length-drop) (omega arith)
+-- What the loop over lines has done: it has read `done`, with `ahead` still to read, and bytes of a line are held only once all is read
+pub record Going (s ahead carry carry' : List ℕ) (used used' : ℕ) (out out' : List ℕ) (wrote : ℕ) : Type 0 where
+  pub done : List ℕ
+  pub parts : s ≡ done ++ ahead
+  pub unheld : 0 < length ahead → carry' ≡ carry
+  pub reads : Read done carry carry' used used' out out' wrote
 
-  pub step_forward : (at + r.taken ≤ n) × (0 < r.taken)
-  step_forward = let p = part in let q = st.forward.1 (omega arith) in omega (arith, st.forward.0)
+pub going_none : (s carry out : List ℕ) (used : ℕ) → used ≤ 8215 → length carry ≡ 8215 → Going s s carry carry used used out out 0
+going_none s carry out used h l = record { done = []; parts = refl; unheld = λ k. refl; reads = read_none s carry out used h l }
 
-  -- the part of s that the step takes
-  taken : take (at + r.taken) s ≡ take at s ++ take r.taken (take (n - at) (drop at s))
-  taken =
-      let p = part in
-      take-add at r.taken s ∙ ap (λ (x : List ℕ). take at s ++ x) (sym (take-take r.taken (n - at) (drop at s) (omega (arith, st.forward.0))))
+pub going_all : {s ahead carry carry' out out' : List ℕ} {used used' wrote : ℕ} → ahead ≡ [] → Going s ahead carry carry' used used' out out' wrote
+    → Read s carry carry' used used' out out' wrote
+going_all {s} {ahead} e g = rw (← append-nil g.done, ← e, ← g.parts) at g.reads
+
+-- a step more, at the part of out that is lent to it
+module _ (s ahead carry carry1 carry2 out out1 last : List ℕ) (used used1 used2 wrote : ℕ) (r : Advance) (some : 0 < length ahead)
+    (g : Going s ahead carry carry1 used used1 out out1 wrote)
+    (st : Stepped ahead carry1 carry2 used1 used2 (take (length out1 - wrote) (drop wrote out1)) last r) where
+  left : take (length ahead - r.taken) (drop r.taken ahead) ≡ drop r.taken ahead
+  left = take_all (length ahead - r.taken) (drop r.taken ahead) (omega (arith, length-drop r.taken ahead))
+
+  same : carry1 ≡ carry
+  same = g.unheld some
 
   rest_out : take (length out1 - wrote) (drop wrote out1) ≡ drop wrote out1
   rest_out = take_all (length out1 - wrote) (drop wrote out1) (omega (arith, length-drop wrote out1))
 
-  pub step_more : Read (take (at + r.taken) s) carry carry2 used r.used out (put_mid wrote (length out1 - wrote) out1 last) (wrote + r.wrote)
-  step_more =
+  pub going_more : Going s (take (length ahead - r.taken) (drop r.taken ahead)) carry carry2 used used2 out (put_mid wrote (length out1 - wrote) out1 last) (wrote + r.wrote)
+  going_more =
       record {
-        writes = λ held q.
-            rw (taken, answers_append held (take at s) (take r.taken (take (n - at) (drop at s))))
-            (stands_more _ _ out out1 last wrote (length out1 - wrote) r.wrote (done.writes held q) refl
-            (rw rest_out at (st.reads.writes (rest held (take at s)) (stands_take (done.holds held q)))));
-        holds = λ held q.
-            rw (taken, rest_append held (take at s) (take r.taken (take (n - at) (drop at s))))
-            (rw same at (st.reads.holds (rest held (take at s)) (stands_take (done.holds held q))));
+        done = g.done ++ take r.taken ahead;
+        parts = rw (left, append_assoc, take-append-drop r.taken ahead) g.parts;
+        unheld = λ h. st.unheld (omega (arith, h, length-drop r.taken ahead, ap length left)) ∙ same;
+        reads = record {
+          writes = λ held q.
+              rw (answers_append held g.done (take r.taken ahead))
+              (stands_more _ _ out out1 last wrote (length out1 - wrote) r.wrote (g.reads.writes held q) refl
+              (rw rest_out at (st.reads.writes (rest held g.done) (stands_take (g.reads.holds held q)))));
+          holds = λ held q.
+              rw (rest_append held g.done (take r.taken ahead))
+              (rw same at (st.reads.holds (rest held g.done) (stands_take (g.reads.holds held q))));
+        };
       }
 
 -- how far a part of the input that is read has filled the answers' room, and what is held of it
@@ -152,6 +165,10 @@ read-room {s} {carry} {carry'} {out} {out'} {used} h r =
     let w = (r.writes _ k).bytes in
     let u = (r.holds _ k).bytes in
     (omega (arith, answers-room (take used carry) s), omega (arith, cut_short (rest (take used carry) s)))
+
+pub going-room : {s ahead carry carry' out out' : List ℕ} {used used' wrote : ℕ} → length carry ≡ 8215
+    → Going s ahead carry carry' used used' out out' wrote → wrote ≤ 32783 + 11 * length s
+going-room {s} {ahead} h g = omega (arith, read-room h g.reads, ap length g.parts, length-append g.done ahead)
 
 -- the same of any number of held bytes, of which 8,215 count, and of any number of bytes read
 pub read_least : {s s' carry carry' out out' : List ℕ} {used n used' wrote : ℕ} → s ≡ s' → take n carry ≡ take used carry

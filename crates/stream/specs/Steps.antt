@@ -29,10 +29,10 @@ pub record Read (s carry carry' : List ℕ) (used used' : ℕ) (out out' : List 
   pub holds : (held : List ℕ) → Held (take used carry) held → Stands (cut (rest held s)) carry carry' used'
 
 -- one line or a part of one
-pub record Stepped (s carry carry' : List ℕ) (used : ℕ) (out out' : List ℕ) (r : Advance) : Type 0 where
+pub record Stepped (s carry carry' : List ℕ) (used used' : ℕ) (out out' : List ℕ) (r : Advance) : Type 0 where
   pub forward : (r.taken ≤ length s) × (0 < length s → 0 < r.taken)
   pub unheld : r.taken < length s → carry' ≡ carry
-  pub reads : Read (take r.taken s) carry carry' used r.used out out' r.wrote
+  pub reads : Read (take r.taken s) carry carry' used used' out out' r.wrote
 
 -- a block of the input, in a turn of the program, whose answers have room in 1,048,576 bytes
 pub record Turned (s carry carry' : List ℕ) (used : ℕ) (out out' : List ℕ) (r : Progress) : Type 0 where

@@ -4,113 +4,146 @@
 //     last   the end of the input
 #![tactic(auto)]
 
-ghost use Rattle.std.specs.Prelude.{◌≡◌, ◌++◌, ◌+◌, ◌*◌, ◌≤◌, min, length, take};
-ghost use Rattle.std.proofs.Math.Seq.{paste};
+ghost use Rattle.std.specs.Prelude.{◌≡◌, ◌++◌, ◌+◌, ◌*◌, ◌≤◌, length, take};
+ghost use Rattle.format.specs.Answer.{answer_of};
+ghost use Rattle.format.specs.Room.{Fitted};
 ghost use Rattle.stream.specs.Steps.{cut, Stands, Finished, Read, Stepped, Turned, Last};
 
-fn least(a: usize, b: usize) -> usize
-    ensures { result ≡ min a b }
-{
-    if a < b { a } else { b }
-}
+// The bytes of a block of the input.
+pub const BLOCK_BYTES: usize = 65536;
 
-// The first n bytes of source to dest, from a place on.
-fn copy(source: &[u8], dest: &mut [u8], to: usize, n: usize)
-    requires { (n ≤ length source.now) × (to + n ≤ length dest.old) }
-    ensures { dest.new ≡ paste dest.old to source.now n }
-{
-    let mut i: usize = 0;
-    while i < n {
-        dest[to + i] = source[i];
-        i += 1;
-    }
-}
+// The bytes that are held of a line, one more than a well-formed one has.
+pub const LINE_BYTES: usize = 8215;
 
-// Room for what is held of a line, one byte more than a well-formed one has.
-pub fn line_room() -> [u8; 8215]
+// The bytes that the answers to the lines which end in a block may take.
+pub const ANSWER_BYTES: usize = 1_048_576;
+
+// Room for what is held of a line.
+pub fn line_room() -> [u8; LINE_BYTES]
     ensures { 8215 ≡ length result }
 {
-    [0; 8215]
+    [0; LINE_BYTES]
 }
 
-// Holds s behind the bytes held, as far as there is room, and hands back how many are held then.
-fn hold(carry: &mut [u8], used: usize, s: &[u8]) -> usize
-    requires { (used ≤ 8215) × (length carry.old ≡ 8215) }
-    ensures { Stands (cut (take used carry.old ++ s.now)) carry.old carry.new result }
-{
-    let n = least(s.len(), carry.len() - used);
-    copy(s, carry, used, n);
-    used + n
-}
-
-// The first `used` bytes of carry and s behind them, as far as there is room, to the front of line; hands back how many bytes that makes.
-fn join(line: &mut [u8], carry: &[u8], used: usize, s: &[u8]) -> usize
-    requires { (used ≤ 8215) × (length carry.now ≡ 8215) × (length line.old ≡ 8215) }
-    ensures { (result ≤ 8215) × (take result line.new ≡ cut (take used carry.now ++ s.now)) }
-{
-    copy(carry, line, 0, used);
-    hold(line, used, s)
-}
-
-// Answers the line that was held and ends with s. Where nothing was held, s is answered where it stands; else the line is put together in
-// `line`, so that carry stays.
-fn finish(
-    s: &[u8],
-    carry: &[u8],
+// What is held of an unfinished line: the first `used` bytes.
+#[derive(Clone, Copy)]
+struct Unfinished {
+    bytes: [u8; LINE_BYTES],
     used: usize,
-    line: &mut [u8],
-    out: &mut [u8],
-    picture: &mut [i32; 4096],
-    res: &mut [i32; 4096],
-    work: &mut [i32; 12288],
-) -> usize
-    requires { (used ≤ 8215) × (length carry.now ≡ 8215) × (length line.old ≡ 8215) × (32783 ≤ length out.old) }
-    ensures { Finished s.now (take used carry.now) out.old out.new result }
-{
-    if used == 0 {
-        return hexlines::answer_in(s, out, picture, res, work);
-    }
-    let n = join(line, carry, used, s);
-    hexlines::answer_in(&line[..n], out, picture, res, work)
+    ghost within: { used ≤ 8215 },
 }
 
-// How much of the input was taken, how many bytes are held, and how many were written.
+impl Unfinished {
+    // The first `used` bytes of carry, or all that there are.
+    fn of(carry: &[u8; LINE_BYTES], used: usize) -> Self
+        ensures { (result.bytes ≡ carry.now) × (take result.used carry.now ≡ take used carry.now) }
+    {
+        Unfinished {
+            bytes: *carry,
+            used: used.min(LINE_BYTES),
+        }
+    }
+
+    fn held(&self) -> &[u8]
+        ensures { result.now ≡ take self.now.used self.now.bytes }
+    {
+        &self.bytes[..self.used]
+    }
+
+    // Holds s behind the bytes held, as far as there is room.
+    fn hold(&mut self, s: &[u8])
+        ensures { Stands (cut (take self.old.used self.old.bytes ++ s.now)) self.old.bytes self.new.bytes self.new.used }
+    {
+        let n = s.len().min(LINE_BYTES - self.used);
+        self.bytes[self.used..self.used + n].copy_from_slice(&s[..n]);
+        self.used += n;
+    }
+}
+
+// Places for the samples of a line, for its result and for the work on it.
+#[derive(Drop)]
+struct Places {
+    picture: [i32; 4096],
+    straightened: [i32; 4096],
+    work: [i32; 12288],
+}
+
+impl Places {
+    fn new() -> Self {
+        Places {
+            picture: hexlines::places(),
+            straightened: hexlines::places(),
+            work: hexlines::work_places(),
+        }
+    }
+
+    // Answers a line at the front of out.
+    fn answer(&mut self, line: &[u8], out: &mut [u8]) -> usize
+        ensures { Fitted (answer_of line.now) out.old out.new result }
+    {
+        hexlines::answer_in(
+            line,
+            out,
+            &mut self.picture,
+            &mut self.straightened,
+            &mut self.work,
+        )
+    }
+}
+
+// Answers the line that was held and ends with s. Where nothing was held, s is answered where it stands; else the line is put together in a
+// copy, so that what is held stays.
+fn finish(s: &[u8], held: &Unfinished, places: &mut Places, out: &mut [u8]) -> usize
+    requires { 32783 ≤ length out.old }
+    ensures { Finished s.now (take held.now.used held.now.bytes) out.old out.new result }
+{
+    if held.used == 0 {
+        return places.answer(s, out);
+    }
+    let mut line = *held;
+    line.hold(s);
+    places.answer(line.held(), out)
+}
+
+// How much of the input was taken, and how many bytes were written.
 #[derive(Clone, Copy)]
 struct Advance {
     taken: usize,
-    used: usize,
     wrote: usize,
 }
 
 // Reads s to the end of its first line, and answers that line; where none ends in s, holds s.
-fn step(
-    s: &[u8],
-    carry: &mut [u8],
-    used: usize,
-    line: &mut [u8],
-    out: &mut [u8],
-    picture: &mut [i32; 4096],
-    res: &mut [i32; 4096],
-    work: &mut [i32; 12288],
-) -> Advance
-    requires { (used ≤ 8215) × (length carry.old ≡ 8215) × (length line.old ≡ 8215) × (32783 ≤ length out.old) }
-    ensures { Stepped s.now carry.old carry.new used out.old out.new result }
+fn step(s: &[u8], held: &mut Unfinished, places: &mut Places, out: &mut [u8]) -> Advance
+    requires { 32783 ≤ length out.old }
+    ensures { Stepped s.now held.old.bytes held.new.bytes held.old.used held.new.used out.old out.new result }
 {
     let n = feeds::line_length(s);
     if n == s.len() {
-        let held = hold(carry, used, s);
-        return Advance {
-            taken: n,
-            used: held,
-            wrote: 0,
-        };
+        held.hold(s);
+        return Advance { taken: n, wrote: 0 };
     }
-    let wrote = finish(&s[..n], carry, used, line, out, picture, res, work);
+    let wrote = finish(&s[..n], held, places, out);
+    held.used = 0;
     Advance {
         taken: n + 1,
-        used: 0,
         wrote,
     }
+}
+
+// Reads the lines of s one after the other, and hands back how many bytes were written. There is room for their answers: eleven bytes for
+// each byte read, and twice the longest answer.
+fn lines(s: &[u8], held: &mut Unfinished, places: &mut Places, out: &mut [u8]) -> usize
+    requires { 65566 + 11 * length s.now ≤ length out.old }
+    ensures { Read s.now held.old.bytes held.new.bytes held.old.used held.new.used out.old out.new result }
+{
+    let mut rest = s;
+    let mut wrote = 0;
+    while !rest.is_empty() {
+        let advance = step(rest, held, places, &mut out[wrote..]);
+        rest = &rest[advance.taken..];
+        wrote += advance.wrote;
+    }
+    wrote
 }
 
 // How many bytes are held of an unfinished line, and how many were written.
@@ -120,92 +153,36 @@ pub struct Progress {
     pub wrote: usize,
 }
 
-// Reads the lines of the first n bytes of s one after the other. There is room for their answers: eleven bytes for each byte read, and twice
-// the longest answer.
-fn lines(
-    s: &[u8],
-    n: usize,
-    carry: &mut [u8],
-    used: usize,
-    line: &mut [u8],
-    out: &mut [u8],
-    picture: &mut [i32; 4096],
-    res: &mut [i32; 4096],
-    work: &mut [i32; 12288],
-) -> Progress
-    requires { (used ≤ 8215) × (length carry.old ≡ 8215) × (length line.old ≡ 8215) × (n ≤ length s.now) × (65566 + 11 * n ≤ length out.old) }
-    ensures { Read (take n s.now) carry.old carry.new used result.used out.old out.new result.wrote }
-{
-    let mut at: usize = 0;
-    let mut held = used;
-    let mut wrote: usize = 0;
-    while at < n {
-        let m = step(
-            &s[at..n],
-            carry,
-            held,
-            line,
-            &mut out[wrote..],
-            picture,
-            res,
-            work,
-        );
-        at += m.taken;
-        held = m.used;
-        wrote += m.wrote;
-    }
-    Progress { used: held, wrote }
-}
-
 // A turn of the line program: the first n bytes of block are read, which go on from the line whose first `used` bytes are in carry. The
 // answers to the lines that end in them are written to the front of out, and what is left of the last line to the front of carry; both are
 // otherwise as they were. A line of more than 8,214 bytes is 9 whatever follows, so no more than 8,215 bytes of it are held.
+// The counts stay beside their buffers, here and in `last`: `Turned` and `Last` promise their answers for any counts.
 pub fn turn(
-    block: &[u8; 65536],
+    block: &[u8; BLOCK_BYTES],
     n: usize,
-    carry: &mut [u8; 8215],
+    carry: &mut [u8; LINE_BYTES],
     used: usize,
-    out: &mut [u8; 1048576],
+    out: &mut [u8; ANSWER_BYTES],
 ) -> Progress
     ensures { Turned (take n block.now) carry.old carry.new used out.old out.new result }
 {
-    let mut line = line_room();
-    let mut picture = hexlines::places();
-    let mut result = hexlines::places();
-    let mut work = hexlines::work_places();
-    lines(
-        block,
-        least(n, 65536),
-        carry,
-        least(used, 8215),
-        &mut line,
-        out,
-        &mut picture,
-        &mut result,
-        &mut work,
-    )
+    let mut held = Unfinished::of(carry, used);
+    let read = &block[..n.min(BLOCK_BYTES)];
+    let wrote = lines(read, &mut held, &mut Places::new(), out);
+    *carry = held.bytes;
+    Progress {
+        used: held.used,
+        wrote,
+    }
 }
 
 // The end of the input: a last line that lacks its line feed, the first `used` bytes of carry, is answered at the front of out; no bytes are
 // no line. Hands back how many bytes the answer has.
-pub fn last(carry: &[u8; 8215], used: usize, out: &mut [u8; 1048576]) -> usize
+pub fn last(carry: &[u8; LINE_BYTES], used: usize, out: &mut [u8; ANSWER_BYTES]) -> usize
     ensures { Last (take used carry.now) out.old out.new result }
 {
     if used == 0 {
         return 0;
     }
-    let mut line = line_room();
-    let mut picture = hexlines::places();
-    let mut result = hexlines::places();
-    let mut work = hexlines::work_places();
-    finish(
-        b"",
-        carry,
-        least(used, 8215),
-        &mut line,
-        out,
-        &mut picture,
-        &mut result,
-        &mut work,
-    )
+    finish(b"", &Unfinished::of(carry, used), &mut Places::new(), out)
 }

@@ -4,8 +4,9 @@ use mathlib.Core.Path.{◌≡◌, refl}
 use mathlib.Core.List.{List, [], ◌∷◌}
 use lib.IntN.{ℤ, pos}
 use lib.ListN.{replicate}
-use Rattle.refusals.specs.declared.Verdict.{Verdict}
-use Rattle.refusals.specs.declared.Verdict.TheVariants.{Accepted, Refused}
+use Rattle.std.specs.Prelude.{Err}
+use Rattle.refusals.specs.declared.Refusal.TheVariants.{BadSize, TooShort, BadCentre, TooFar, BadKernel, BadSample, BadBackground, OtherSize}
+use Rattle.refusals.specs.Judging.{Verdict, accepted}
 use Rattle.refusals.specs.Tests.{bad_side, bad_size, short, bad_kernel, beyond_of, first_from, first_bad}
 use Rattle.settings.specs.declared.Border.TheVariants.{Wrapped, Background}
 use Rattle.settings.specs.declared.Setting.{Setting}
@@ -39,7 +40,7 @@ sizes :
     ∷ given (ticket 0 0 still) (zeros 6)
     ∷ given (ticket 1025 1 still) (zeros 6)
     ∷ []
-    ≡ Accepted ∷ Refused 14 0 0 ∷ Refused 14 0 0 ∷ Refused 14 0 0 ∷ Refused 14 0 0 ∷ Refused 14 0 0 ∷ []
+    ≡ accepted ∷ Err OtherSize ∷ Err OtherSize ∷ Err OtherSize ∷ Err OtherSize ∷ Err OtherSize ∷ []
 unfolding judged_on other_size bad_size bad_side too_short short bad_centre bad_shears bad_kernel bad_background first_bad first_from beyond_of
 sizes = refl
 
@@ -51,7 +52,7 @@ again :
     ∷ given (ticket 3 2 (with_border still (Background (pos 32768)))) (zeros 6)
     ∷ given (ticket 3 2 still) (pos 0 ∷ pos 0 ∷ pos 0 ∷ pos 0 ∷ pos 0 ∷ pos 32768 ∷ [])
     ∷ []
-    ≡ Refused 3 0 0 ∷ Refused 4 0 0 ∷ Refused 5 0 0 ∷ Refused 12 0 0 ∷ Refused 6 1 2 ∷ []
+    ≡ Err BadCentre ∷ Err TooFar ∷ Err BadKernel ∷ Err BadBackground ∷ Err (BadSample (record { row = 1; column = 2 })) ∷ []
 unfolding judged_on other_size bad_size bad_side too_short short bad_centre bad_shears bad_kernel bad_background first_bad first_from beyond_of
 again = refl
 
@@ -61,6 +62,6 @@ order :
     ∷ given (ticket 0 0 still) (zeros 5)
     ∷ given (ticket 2 2 (with_centre still 3 0)) (zeros 6)
     ∷ []
-    ≡ Refused 1 0 0 ∷ Refused 2 0 0 ∷ Refused 14 0 0 ∷ []
+    ≡ Err BadSize ∷ Err TooShort ∷ Err OtherSize ∷ []
 unfolding judged_on other_size bad_size bad_side too_short short bad_centre bad_shears bad_kernel bad_background first_bad first_from beyond_of
 order = refl

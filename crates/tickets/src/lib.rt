@@ -8,8 +8,8 @@
 ghost use Rattle.std.specs.Prelude.{◌≡◌};
 ghost use Rattle.tickets.specs.Ticket.{other_size, Asking, Committed};
 
-use pictures::Outcome;
-use refusals::Verdict;
+use pictures::Straightened;
+use refusals::Refusal;
 use settings::Setting;
 
 // What a straightening will do: its size and setting, and how many lines it will interpolate.
@@ -21,14 +21,8 @@ pub struct Ticket {
     pub count: u32,
 }
 
-// What asking answers. Refused, the ticket is of size 0 by 0 and count 0, with the setting as asked.
-#[derive(Clone, Copy)]
-pub struct Asked {
-    pub verdict: Verdict,
-    pub ticket: Ticket,
-}
-
 // Number 14: whether a size is another than the ticket's.
+#[tactic(auto, unfolding(crate::specs::Ticket::other_size))]
 fn other_size(ticket: Ticket, width: usize, height: usize) -> bool
     ensures { result ≡ other_size width height ticket }
 {
@@ -44,31 +38,17 @@ pub fn ask(
     picture: &[i32],
     res: &[i32],
     work: &[i32],
-) -> Asked
+) -> Result<Ticket, Refusal>
     ensures { Asking width height setting picture.now res.now work.now result }
 {
-    let verdict = acceptance::judge(width, height, setting, picture, res.len(), work.len());
-    match verdict {
-        Verdict::Refused(_, _, _) => {
-            let ticket = Ticket {
-                width: 0,
-                height: 0,
-                setting,
-                count: 0,
-            };
-            Asked { verdict, ticket }
-        }
-        Verdict::Accepted => {
-            let count = offsets::count_of(width, height, setting);
-            let ticket = Ticket {
-                width,
-                height,
-                setting,
-                count,
-            };
-            Asked { verdict, ticket }
-        }
-    }
+    acceptance::judge(width, height, setting, picture, res.len(), work.len())?;
+    let count = offsets::count_of(width, height, setting);
+    Ok(Ticket {
+        width,
+        height,
+        setting,
+        count,
+    })
 }
 
 // Straightens a picture of `width` by `height` samples into `result` with the ticket's setting, as `pictures::straighten` does. It judges what it is
@@ -81,7 +61,7 @@ pub fn commit(
     picture: &[i32],
     res: &mut [i32],
     work: &mut [i32],
-) -> Outcome
+) -> Result<Straightened, Refusal>
     ensures { Committed ticket width height picture.now res.old work.old result res.new work.new }
 {
     let setting = ticket.setting;

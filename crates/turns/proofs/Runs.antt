@@ -1,17 +1,16 @@
 -- Runs of a row: that one lies inside the picture, what a copy of it holds, and what is read from a loaded block. Assumes nothing.
 use Prim.Native.Nat.{ℕ, ◌+◌, ◌*◌, ◌-◌, ◌≤◌, ◌<◌}
 use mathlib.Core.Path.{◌≡◌, refl, ap, ◌∙◌}
-use mathlib.Core.Bool.{Bool, false}
-use mathlib.Core.List.{List, ◌++◌}
+use mathlib.Core.Bool.{Bool, true, false, cond}
+use mathlib.Core.List.{List}
 use native.Mathlib.Omega.{arith}
 use lib.IntN.{ℤ, pos}
-use lib.ListN.{length, take, drop, length-append, length-take, length-drop, get_or-append}
-use lib.Seq.{get_or-take}
-use Rattle.lists.specs.Tab.{tab}
+use lib.ListN.{length, take, drop, length-take, length-drop}
+use Rattle.std.specs.Prelude.{reverse}
+use Rattle.std.proofs.lemmas.List.{length-reverse, get_or-reverse}
 use Rattle.lists.specs.Line.{line}
 use Rattle.lists.specs.Picture.{picture}
 use Rattle.lists.specs.Grid.{line_of}
-use Rattle.lists.proofs.Tab.{tab-length, tab_at}
 use Rattle.lists.proofs.Rows.{row_in, part_at}
 use Rattle.lists.proofs.Grid.{line_of_at, line_of-length}
 use Rattle.arrangements.specs.Moves.{screen}
@@ -29,18 +28,22 @@ run_in W H y x n places l fits room = omega (arith, row_in W H y l)
 pub part_length : (a n : ℕ) (s : List ℤ) → a + n ≤ length s → length (take (a + n - a) (drop a s)) ≡ n
 part_length a n s room = simp (length-take, length-drop) (omega arith)
 
--- n places from place a on, copied over n others
-module _ (a n : ℕ) (s old new : List ℤ) (room : a + n ≤ length s) (places : length old ≡ n)
-    (copied : new ≡ take n (take (a + n - a) (drop a s)) ++ drop n old) where
-  pub copied-length : length new ≡ n
-  copied-length = ap length copied ∙ simp (length-append, length-take, length-drop) (omega arith)
+-- n places from place a on, as they are or in reverse
+module _ (a n : ℕ) (s : List ℤ) (room : a + n ≤ length s) where
+  abbrev part : List ℤ
+  part = take (a + n - a) (drop a s)
 
-  pub copied_at : (k : ℕ) → k < n → line new k ≡ line s (a + k)
-  copied_at k l =
-      ap (λ (t : List ℤ). line t k) copied
-      ∙ get_or-append (take n (take (a + n - a) (drop a s))) (drop n old) (pos 0) k (simp (length-take, length-drop) (omega arith))
-      ∙ get_or-take n (take (a + n - a) (drop a s)) k (pos 0) l
-      ∙ part_at a (a + n) s k (pos 0) (omega arith)
+  pub faced_length : (back : Bool) (new : List ℤ) → new ≡ cond back (reverse part) part → length new ≡ n
+  faced_length true new e = ap length e ∙ length-reverse part ∙ part_length a n s room
+  faced_length false new e = ap length e ∙ part_length a n s room
+
+  pub faced_at : (back : Bool) (new : List ℤ) → new ≡ cond back (reverse part) part → (k : ℕ) → k < n → line new k ≡ line s (a + facing back n k)
+  faced_at true new e k l =
+      ap (λ (t : List ℤ). line t k) e
+      ∙ get_or-reverse part k (pos 0) (omega (arith, part_length a n s room))
+      ∙ ap (λ (i : ℕ). line part (i - 1 - k)) (part_length a n s room)
+      ∙ part_at a (a + n) s (n - 1 - k) (pos 0) (omega arith)
+  faced_at false new e k l = ap (λ (t : List ℤ). line t k) e ∙ part_at a (a + n) s k (pos 0) (omega arith)
 
 -- n places of a strided line
 module _ (at along n m : ℕ) (s new : List ℤ) (places : m ≡ n) (read : new ≡ line_of at along m s) where
@@ -49,22 +52,6 @@ module _ (at along n m : ℕ) (s new : List ℤ) (places : m ≡ n) (read : new 
 
   pub read_at : (k : ℕ) → k < n → line new k ≡ line s (at + k * along)
   read_at k l = ap (λ (t : List ℤ). line t k) read ∙ line_of_at at along m s k (omega arith)
-
--- n places from place a on, counted from either end
-module _ (back : Bool) (a n m : ℕ) (s new : List ℤ) (room : a + n ≤ length s) (places : m ≡ n)
-    (made : new ≡ tab (λ k. line (take (a + n - a) (drop a s)) (facing back m k)) m) where
-  pub faced_length : length new ≡ n
-  faced_length = ap length made ∙ tab-length _ m ∙ places
-
-  pub faced_at : (k : ℕ) → k < n → line new k ≡ line s (a + facing back n k)
-  faced_at k l =
-      ap (λ (t : List ℤ). line t k) made
-      ∙ tab_at _ m k (pos 0) (omega arith)
-      ∙ part_at a (a + n) s (facing back m k) (pos 0) (inside (facing_below back m k (omega arith)))
-      ∙ ap (λ (i : ℕ). line s (a + facing back i k)) places
-    where
-      inside : {i : ℕ} → i < m → i < a + n - a
-      inside h = omega arith
 
 -- and so it is a row of the picture so seen
 pub faced_row : (W H : ℕ) (r b : Bool) (y f k : ℕ) (s : List ℤ) → f ≡ facing b H y → line s (f * W + facing r W k) ≡ (viewed false r b (screen W H s)).at y k

@@ -1,9 +1,10 @@
--- What writing a picture anew asks of the picture, of the result and of the block that samples go through. Assumes nothing.
-use Rattle.std.specs.Prelude.{ℕ, ◌+◌, ◌*◌, ◌≤◌, ◌≡◌, true, List, ℤ}
+-- What writing a picture anew asks of the picture, of the result and of the tiles of it that go through a block. Assumes nothing.
+use Rattle.std.specs.Prelude.{ℕ, ◌+◌, ◌*◌, ◌-◌, ◌≤◌, true, List, ℤ}
 use Rattle.lists.specs.Picture.{Picture, picture}
 use Rattle.arrangements.specs.Moves.{screen}
 use Rattle.arrangements.specs.Views.{facing, viewed}
 use Rattle.turns.specs.declared.View.{View}
+use Rattle.turns.specs.declared.Tile.{Tile}
 
 -- the picture so seen, with its rows as columns
 abbrev pub seen : View → List ℤ → Picture
@@ -20,8 +21,14 @@ pub record Held (v : View) (picture result : ℕ) : Type 0 where
   pub picture_places : v.width * v.height ≤ picture
   pub result_places : v.width * v.height ≤ result
 
--- a block of so many places holds so many columns, each of so many rows
-pub record InBlock (columns rows places : ℕ) : Type 0 where
-  pub across : columns ≤ 64
-  pub down : rows ≤ 64
-  pub room : places ≡ 4352
+-- a tile lies inside the result, which is as wide as the picture is high, and goes through the block
+pub record Tiled (v : View) (t : Tile) : Type 0 where
+  pub across : t.columns ≤ 64
+  pub down : t.rows ≤ 64
+  pub some : 1 ≤ t.rows
+  pub columns_inside : t.x + t.columns ≤ v.height
+  pub rows_inside : t.y + t.rows ≤ v.width
+
+-- the least of the picture's columns that are a tile's rows
+abbrev pub least_column : View → Tile → ℕ
+least_column v t = facing v.right (v.width - t.rows + 1) t.y

@@ -1,5 +1,4 @@
 -- `digits::put_places` meets its contract.
-use Prim.Native.Nat.{◌≤◌}
 use mathlib.Core.List.{◌++◌}
 use mathlib.Core.Path.{◌≡◌}
 use lib.ListN.{length, drop}
@@ -7,7 +6,4 @@ use Rattle.digits.specs.Digit.{places_of}
 use Rattle.digits.proofs.put_places.Given as goal
 
 abbrev pub invariant-loop-n : goal.invariant-loop-n
-invariant-loop-n l = (l.n ≤ length l.out) × (length l.out ≡ length l.initial.out) × (places_of l.n l.rest ++ drop l.n l.out ≡ places_of (length l.initial.out) l.v)
-
-abbrev pub decreases-loop-n : goal.decreases-loop-n
-decreases-loop-n l = l.n
+invariant-loop-n l = places_of l.n l.rest ++ drop l.n l.out ≡ places_of (length l.initial.out) l.v

@@ -1,24 +1,21 @@
 -- `digits::spell` meets its contract.
 use mathlib.Core.Path.{◌≡◌, refl, ◌∙◌}
 use native.Mathlib.Omega.{arith}
-use borrow.Author.Rules.{rules}
-use lib.ListN.{length-set, get_or}
+use lib.ListN.{get_or}
 use Rattle.lists.proofs.Fill.{filled_none, filled_more}
 use Rattle.digits.proofs.Filled.{filled_next, filled_all}
 use Rattle.digits.specs.Digit.{spelt}
 use Rattle.digits.proofs.spell.Goals as goal
 
-pub loop-i-init : goal.loop-i-init
-loop-i-init c = (omega arith, search rules, filled_none spelt _ _)
+pub loop-place-init : goal.loop-place-init
+loop-place-init c = filled_none spelt _ _
 
-pub loop-i-preserved : goal.loop-i-preserved
-loop-i-preserved c =
+pub loop-place-preserved : goal.loop-place-preserved
+loop-place-preserved c =
     let a = c.args.out.now in
-    let e : c.digit_of.result ≡ spelt (get_or a c.loop-i.i 0) = c.digit_of.ensures ∙ unfold spelt in rw (c.loop-i.invariant.2, filled_next spelt c.loop-i.i a a 0 (omega arith) (omega arith)) refl in (
-      omega arith,
-      simp length-set (omega arith),
-      rw (c.loop-i.invariant.2, e) (filled_more spelt c.loop-i.i a a 0 (omega arith) (omega arith)),
-    )
+    let i = c.loop-place.place-index in
+    let e : c.digit_of.result ≡ spelt (get_or a i 0) = c.digit_of.ensures ∙ unfold spelt in rw (c.loop-place.invariant, filled_next spelt i a a 0 (omega arith) (omega arith)) refl in
+    rw (c.loop-place.invariant, e) (filled_more spelt i a a 0 (omega arith) (omega arith))
 
 pub returns : goal.returns
-returns c = c.loop-i.invariant.2 ∙ filled_all spelt c.loop-i.i _ _ (omega arith) (omega arith)
+returns c = c.loop-place.invariant ∙ filled_all spelt c.loop-place.place-index _ _ (omega arith) (omega arith)

@@ -19,7 +19,9 @@ use Rattle.arith.proofs.Move.{fraction_low, fraction_high}
 use Rattle.arith.proofs.Compute.{Code, arg, ◌+ᵐ◌, plain, run, Ranges, need, value}
 use Rattle.lists.specs.Line.{Line, line}
 use Rattle.kernels.specs.declared.FourWeights.{FourWeights}
-use Rattle.kernels.specs.Kernel.{Kernel, Linear, Keys, Spline, kernel_of, weight}
+use Rattle.kernels.specs.declared.Kernel.{Kernel}
+use Rattle.kernels.specs.declared.Kernel.TheVariants.{Linear, Keys, Spline}
+use Rattle.kernels.specs.Kernel.{weight}
 use Rattle.kernels.specs.Four.{four_weights, weighted_sum, Modest}
 use Rattle.kernels.proofs.Four.{weights_modest, weigh_four, Fitting, products_fit}
 use Rattle.moves.specs.Move.{divisor}
@@ -35,7 +37,7 @@ module _ (c : After-weights_at-w) where
   s = c.before
 
   abbrev κ : Kernel
-  κ = kernel_of s.args.kernel
+  κ = s.args.kernel
 
   abbrev f : ℤ
   f = pos (fraction s.args.d)
@@ -53,7 +55,7 @@ module _ (c : After-weights_at-w) where
   -- what a term asks, and the term
   asks : (i : ℕ) (of : FourWeights → ℤ) → i < 4 → nat_abs (of (four_weights κ f)) ≤ 412316860416
       → Weighed (to_z w32 (of_z w32 s.args.d)) s.args.k s.args.weighed.now × (i < 4) × (nat_abs (to_z w64 (of_z w64 (of c.weights_at-w.result))) ≤ 412316860416)
-  asks i of l h = rw (to_z-of_z s.ranges.d, lent of h) (s.requires.0, l, h)
+  asks i of l h = rw (to_z-of_z s.ranges.d, lent of h) (s.requires, l, h)
 
   abbrev term_at : ℤ → ℤ → ℕ → Term
   term_at d w i = let n = length s.args.weighed.now in term_by (place_of n d s.args.k i) w (value_of n d s.args.k (line s.args.weighed.now) i)
@@ -106,7 +108,7 @@ module _ (t : After-term_of-e) where
   e = t.term_of-e.result.product
 
   value_small : (i : ℕ) → nat_abs (at i) ≤ 14155779
-  value_small i = a.requires.0.small _ (place_inside (length a.args.weighed.now) a.args.d a.args.k i (omega (arith, a.requires.0.inside)))
+  value_small i = a.requires.small _ (place_inside (length a.args.weighed.now) a.args.d a.args.k i (omega (arith, a.requires.inside)))
 
   products : Fitting (weight (κ w) (f w) 0 *ℤ at 0) (weight (κ w) (f w) 1 *ℤ at 1) (weight (κ w) (f w) 2 *ℤ at 2) (weight (κ w) (f w) 3 *ℤ at 3)
   products =
@@ -156,32 +158,26 @@ module _ (c : After-rounded) where
   quotient_is : to_z w64 (of_z w64 c.rounded.result) ≡ round total (divisor (κ (w made)))
   quotient_is = read_back w64 _ c.rounded.type_inv ∙ c.rounded.ensures ∙ ap₂ (λ (z o : ℤ). round z (nat_abs o)) (sum_is made) (over_is c.before)
 
-pub weights_at-w-requires : goal.weights_at-w-requires
-weights_at-w-requires c = rw (to_z-of_z c.ranges.d) (c.requires.1, c.requires.0.near)
-
 pub term_of-a-requires : goal.term_of-a-requires
-term_of-a-requires c = asks c.before.before 0 (λ y. y.w0) (omega arith) (omega (arith, modest c.before.before))
+term_of-a-requires c = let w = (goal.at.term_of-a-requires c).After-weights_at-w in asks w 0 (λ y. y.w0) (omega arith) (omega (arith, modest w))
 
 pub term_of-b-requires : goal.term_of-b-requires
-term_of-b-requires c = asks c.before.before.before.before 1 (λ y. y.w1) (omega arith) (omega (arith, modest c.before.before.before.before))
+term_of-b-requires c = let w = (goal.at.term_of-b-requires c).After-weights_at-w in asks w 1 (λ y. y.w1) (omega arith) (omega (arith, modest w))
 
 pub term_of-c-requires : goal.term_of-c-requires
-term_of-c-requires c = asks c.before.before.before.before.before.before 2 (λ y. y.w2) (omega arith) (omega (arith, modest c.before.before.before.before.before.before))
+term_of-c-requires c = let w = (goal.at.term_of-c-requires c).After-weights_at-w in asks w 2 (λ y. y.w2) (omega arith) (omega (arith, modest w))
 
 pub term_of-e-requires : goal.term_of-e-requires
-term_of-e-requires c = asks c.before.before.before.before.before.before.before.before 3 (λ y. y.w3) (omega arith) (omega (arith, modest c.before.before.before.before.before.before.before.before))
+term_of-e-requires c = let w = (goal.at.term_of-e-requires c).After-weights_at-w in asks w 3 (λ y. y.w3) (omega arith) (omega (arith, modest w))
 
 pub overflow_add-sum : goal.overflow_add-sum
-overflow_add-sum c = need 0 (sum c.before.before.before.before.before) (added c.before.before.before.before.before).0
+overflow_add-sum c = let t = (goal.at.overflow_add-sum c).After-term_of-e in need 0 (sum t) (added t).0
 
 pub overflow_add-sum-2 : goal.overflow_add-sum-2
-overflow_add-sum-2 c = need 1 (sum c.before.before.before.before.before.before.before) (added c.before.before.before.before.before.before.before).0
+overflow_add-sum-2 c = let t = (goal.at.overflow_add-sum-2 c).After-term_of-e in need 1 (sum t) (added t).0
 
 pub overflow_add-sum-3 : goal.overflow_add-sum-3
-overflow_add-sum-3 c = need 2 (sum c.before.before.before.before.before.before.before.before.before) (added c.before.before.before.before.before.before.before.before.before).0
-
-pub divisor_of-divisor-requires : goal.divisor_of-divisor-requires
-divisor_of-divisor-requires c = (a c.before.before.before.before.before.before.before.before.before).requires.1
+overflow_add-sum-3 c = let t = (goal.at.overflow_add-sum-3 c).After-term_of-e in need 2 (sum t) (added t).0
 
 pub rounded-requires : goal.rounded-requires
 rounded-requires c =

@@ -9,6 +9,6 @@ pub returns-then-held-n : goal.returns-then-held-n
 unfolding too_short short
 returns-then-held-n c = rw (lt-ltb _ _ c.if-held-n.true) refl
 
-pub returns : goal.returns
+pub returns-else-held-n : goal.returns-else-held-n
 unfolding too_short short
-returns c = rw (le-ltb _ _ c.if-held-n.false) refl
+returns-else-held-n c = rw (le-ltb _ _ c.if-held-n.false) refl

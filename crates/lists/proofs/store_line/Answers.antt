@@ -1,11 +1,10 @@
 -- `store_line` is one run of `store_part`, or two that `put-rolled` joins. Assumes nothing.
 use Prim.Native.Nat.{ℕ, ◌+◌, ◌*◌, ◌-◌, ◌<◌}
-use mathlib.Core.Path.{◌≡◌, sym, ap, ◌∙◌}
+use mathlib.Core.Path.{◌≡◌, ap, ◌∙◌}
 use mathlib.Core.List.{List}
 use native.Mathlib.Omega.{arith}
 use lib.IntN.{ℤ}
 use lib.ListN.{length, take, length-take, length-drop}
-use lib.Seq.{length-take-le}
 use Rattle.lists.specs.Line.{line}
 use Rattle.lists.specs.Grid.{put}
 use Rattle.lists.proofs.Grid.{put-run, put-rolled}
@@ -32,11 +31,6 @@ overflow_mul-run c = omega (arith, second_in c)
 
 pub overflow_add-at : goal.overflow_add-at
 overflow_add-at c = omega (arith, second_in c)
-
-pub slice_bounds-store_part-end-3 : goal.slice_bounds-store_part-end-3
-slice_bounds-store_part-end-3 c =
-    let a = c.args in
-    sym (length-take-le (a.n - (length a.samples.now - a.turn)) a.samples.now (omega (arith, c.requires.turn_in_bounds)))
 
 pub store_part-requires-3 : goal.store_part-requires-3
 store_part-requires-3 c =

@@ -12,6 +12,6 @@ pub returns : goal.returns
 unfolding count
 returns c =
     let s = c.args.setting in
-    let rows = c.count_lines-rows.ensures.0 in
-    let lines = ap₂ ◌+◌ (ap₂ ◌+◌ rows c.count_lines-columns.ensures.0) rows in
-    (rw (read_back w32 s.a (search rules), read_back w32 s.b (search rules)) at lines, omega (arith, c.count_lines-rows.ensures.1, c.count_lines-columns.ensures.1))
+    let rows = c.count-rows.ensures.0 in
+    let lines = ap₂ ◌+◌ (ap₂ ◌+◌ rows c.count-columns.ensures.0) rows in
+    (rw (read_back w32 s.a (search rules), read_back w32 s.b (search rules)) at lines, omega (arith, c.count-rows.ensures.1, c.count-columns.ensures.1))

@@ -1,52 +1,26 @@
 -- `sheared_by` is a product of small numbers: Compute mirrors it. Assumes nothing.
 use Prim.Native.Nat.{ℕ, ◌≤◌}
-use mathlib.Core.Path.{refl}
+use mathlib.Core.Path.{◌≡◌, sym, ap, ◌∙◌, subst}
 use native.Mathlib.Omega.{arith}
 use lib.Dec.{lit<}
-use lib.IntN.{pos, nat_abs, ◌-ℤ◌, ◌*ℤ◌}
-use mir.Syntax.{w32, w64}
+use lib.IntN.{ℤ, pos, nat_abs, ◌-ℤ◌, ◌*ℤ◌}
+use mir.Syntax.{w64}
+use mir.Facts.{to_z-of_z}
 use Rattle.arith.proofs.Bridge.{bridge}
 use Rattle.arith.proofs.Laws.{nat_abs-*ℤ-≤}
 use Rattle.arith.proofs.Machine.{sfits-nat_abs}
-use Rattle.arith.proofs.Compute.{Code, arg, nat, cast, ◌-ᵐ◌, ◌*ᵐ◌, Ranges, need, value}
+use Rattle.arith.proofs.Compute.{arg_sized, nat_sized, minus_sized, times_sized, reads}
 use Rattle.offsets.proofs.sheared_by.Goals as goal
-use Rattle.offsets.proofs.sheared_by.Goals.{Start}
-
-abbrev code : Start → Code w64
-code s = cast w32 (arg s.args.a) *ᵐ (nat s.args.y -ᵐ nat s.args.c)
 
 apart : (y c : ℕ) → y ≤ 1024 → c ≤ 1024 → nat_abs (pos y -ℤ pos c) ≤ 1024
 apart = simp bridge (omega arith)
 
-size : (s : Start) → nat_abs (s.args.a *ℤ (pos s.args.y -ℤ pos s.args.c)) ≤ 4194304
-size s = nat_abs-*ℤ-≤ s.args.a (pos s.args.y -ℤ pos s.args.c) s.requires.0 (apart s.args.y s.args.c s.requires.2 s.requires.1)
-
-in_range : (s : Start) → Ranges (code s)
-in_range s = (
-  s.ranges.a,
-  (
-    sfits-nat_abs s.args.a s.requires.0 (lit< tt),
-    (
-      omega arith,
-      (
-        omega arith,
-        (
-          sfits-nat_abs (pos s.args.y -ℤ pos s.args.c) (apart s.args.y s.args.c s.requires.2 s.requires.1) (lit< tt),
-          (sfits-nat_abs (s.args.a *ℤ (pos s.args.y -ℤ pos s.args.c)) (size s) (lit< tt), tt),
-        ),
-      ),
-    ),
-  ),
-)
-
-pub overflow_cast-result : goal.overflow_cast-result
-overflow_cast-result c = need 0 (code c) (in_range c)
-
-pub overflow_sub-result : goal.overflow_sub-result
-overflow_sub-result c = need 1 (code c) (in_range c)
-
-pub overflow_mul-result : goal.overflow_mul-result
-overflow_mul-result c = need 2 (code c) (in_range c)
-
 pub returns : goal.returns
-returns c = rw (value (code c) (in_range c)) (refl, size c)
+returns c =
+    let a = c.args in
+    let from : c.from.result ≡ a.a = c.from.ensures ∙ to_z-of_z c.ranges.a in
+    let small = subst (λ (z : ℤ). nat_abs z ≤ 4096) (sym from) c.requires.0 in
+    let product = times_sized (arg_sized {w = w64} 4096 (sfits-nat_abs c.from.result small (lit< tt)) small) (minus_sized (nat_sized 1024 c.requires.2 tt) (nat_sized 1024 c.requires.1 tt) tt) tt in (
+      reads product ∙ ap (λ (z : ℤ). z *ℤ (pos a.y -ℤ pos a.c)) from,
+      rw (reads product, from) (nat_abs-*ℤ-≤ a.a (pos a.y -ℤ pos a.c) c.requires.0 (apart a.y a.c c.requires.2 c.requires.1)),
+    )

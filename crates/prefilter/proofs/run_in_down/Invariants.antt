@@ -1,14 +1,12 @@
--- `run_in_down`: j is the place that turn k reads, and x the value after k turns. Assumes nothing.
-use mathlib.Core.Path.{◌≡◌}
-use Prim.Native.Nat.{suc, ◌+◌, ◌-◌, ◌%◌, ◌≤◌, ◌<◌}
-use lib.ListN.{length}
+-- `run_in_down`: j is the place that the next turn reads, and x the value after the turns so far. Assumes nothing.
+use Rattle.std.proofs.Common.{◌≡◌, suc, ◌+◌, ◌-◌, ◌%◌, ◌<◌, length}
 use Rattle.lists.specs.Line.{line}
 use Rattle.spline.specs.Coefficients.{run_in, down}
 use Rattle.prefilter.proofs.run_in_down.Given as goal
 
-abbrev pub invariant-loop-k : goal.invariant-loop-k
-invariant-loop-k l =
-    (l.k ≤ run_in) × (l.j < length l.u) × (l.j ≡ (length l.u + run_in - suc l.k) % length l.u) × (l.x ≡ down (length l.u) (line l.u) l.k)
-
-abbrev pub decreases-loop-k : goal.decreases-loop-k
-decreases-loop-k l = run_in - l.k
+abbrev pub invariant-loop : goal.invariant-loop
+invariant-loop l = record {
+  inside : l.j < length l.u;
+  place : l.j ≡ (length l.u + run_in - suc l.counter) % length l.u;
+  carried : l.x ≡ down (length l.u) (line l.u) l.counter;
+}

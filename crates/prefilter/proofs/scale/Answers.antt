@@ -1,6 +1,6 @@
 -- `scale` is [6·P·x/2³⁰]. Assumes nothing.
 use mathlib.Core.Path.{◌∙◌}
-use Prim.Native.Nat.{ℕ, ◌≤◌}
+use Prim.Native.Nat.{◌≤◌}
 use native.Mathlib.Omega.{arith}
 use lib.Dec.{lit<}
 use lib.IntN.{ℤ, pos, nat_abs, ◌*ℤ◌}
@@ -9,7 +9,7 @@ use mir.Val.{SFits}
 use Rattle.arith.proofs.Bridge.{all1}
 use Rattle.arith.proofs.Divide.{division}
 use Rattle.arith.proofs.Round.{shr-round}
-use Rattle.arith.proofs.Compute.{Code, arg, num, cast, ◌+ᵐ◌, ◌*ᵐ◌, ◌>>ᵐ◌, Ranges, At, asked, done, need, value}
+use Rattle.arith.proofs.Compute.{Code, arg, num, cast, ◌+ᵐ◌, ◌*ᵐ◌, ◌>>ᵐ◌, Ranges, value}
 use Rattle.spline.specs.Coefficients.{T, scaled}
 use Rattle.prefilter.proofs.scale.Goals as goal
 use Rattle.prefilter.proofs.scale.Goals.{Start}
@@ -22,18 +22,6 @@ in_range = all1 _ (simp division (omega arith))
 
 ranges : (c : Start) → Ranges (code c.args.x)
 ranges c = in_range c.args.x c.ranges.x c.requires
-
-answer : (k : ℕ) (c : Start) → At k (asked (code c.args.x) done)
-answer k c = need k (code c.args.x) (ranges c)
-
-pub overflow_mul-result : goal.overflow_mul-result
-overflow_mul-result c = answer 0 (goal.at.overflow_mul-result c).Start
-
-pub overflow_add-result : goal.overflow_add-result
-overflow_add-result c = answer 1 (goal.at.overflow_add-result c).Start
-
-pub overflow_cast-result : goal.overflow_cast-result
-overflow_cast-result c = answer 2 (goal.at.overflow_cast-result c).Start
 
 pub returns : goal.returns
 unfolding scaled

@@ -1,16 +1,16 @@
 -- `step` is the input less [P·x/2³⁰]. Assumes nothing.
 use mathlib.Core.Path.{ap, ◌∙◌}
-use Prim.Native.Nat.{ℕ}
 use native.Mathlib.Omega.{arith}
 use lib.Dec.{lit<}
 use lib.IntN.{ℤ, pos, ◌-ℤ◌, ◌*ℤ◌}
 use mir.Syntax.{w64}
 use mir.Val.{SFits}
+use Rattle.std.proofs.lemmas.Int.{ints, to_z-of_z}
 use Rattle.arith.proofs.Bridge.{all2}
 use Rattle.arith.proofs.Divide.{division}
 use Rattle.arith.proofs.Round.{shr-round}
 use Rattle.arith.proofs.Within.{Within, size_within}
-use Rattle.arith.proofs.Compute.{Code, arg, num, ◌+ᵐ◌, ◌-ᵐ◌, ◌*ᵐ◌, ◌>>ᵐ◌, Ranges, At, asked, done, need, value}
+use Rattle.arith.proofs.Compute.{Code, arg, num, ◌+ᵐ◌, ◌-ᵐ◌, ◌*ᵐ◌, ◌>>ᵐ◌, Ranges, value}
 use Rattle.spline.specs.Coefficients.{P, T}
 use Rattle.prefilter.proofs.step.Goals as goal
 use Rattle.prefilter.proofs.step.Goals.{Start}
@@ -26,19 +26,10 @@ ranges c =
     in_range c.args.s c.args.x c.ranges.s c.ranges.x (size_within c.args.s 6488065 c.requires.0)
     (size_within c.args.x 9142272 c.requires.1)
 
-answer : (k : ℕ) (c : Start) → At k (asked (code c.args.s c.args.x) done)
-answer k c = need k (code c.args.s c.args.x) (ranges c)
-
-pub overflow_mul-result : goal.overflow_mul-result
-overflow_mul-result c = answer 0 (goal.at.overflow_mul-result c).Start
-
-pub overflow_add-result : goal.overflow_add-result
-overflow_add-result c = answer 1 (goal.at.overflow_add-result c).Start
-
-pub overflow_sub-result : goal.overflow_sub-result
-overflow_sub-result c = answer 2 (goal.at.overflow_sub-result c).Start
-
 pub returns : goal.returns
 returns c =
     value (code c.args.s c.args.x) (ranges c)
     ∙ ap (λ t. c.args.s -ℤ t) (shr-round (pos P *ℤ c.args.x) T (lit< tt))
+
+pub overflow_sub-result : goal.overflow_sub-result
+overflow_sub-result c = grind (arith, ints, to_z-of_z)

@@ -1,19 +1,21 @@
 -- `rows::prepare` meets its contract. Assumes nothing.
-use mathlib.Core.Path.{refl, ◌∙◌}
-use Prim.Native.Nat.{◌<◌}
+use mathlib.Core.Path.{◌≡◌, refl, ◌∙◌}
+use mathlib.Core.List.{List}
+use mathlib.Core.Logic.{◌⊎◌, inl, inr}
 use native.Mathlib.Omega.{arith}
+use lib.IntN.{ℤ}
+use Rattle.kernels.specs.declared.Kernel.{Kernel}
+use Rattle.kernels.specs.declared.Kernel.TheVariants.{Linear, Keys}
+use Rattle.moves.specs.InPlace.{prepared}
 use Rattle.moves.proofs.InPlace.{prepared_samples, prepared-coefficients}
 use Rattle.rows.proofs.prepare.Goals as goal
 
-pub coefficients-requires : goal.coefficients-requires
-coefficients-requires c =
-    record { in_bounds = (c.requires.in_bounds.0, c.requires.in_bounds.1); by_index = c.requires.all_within c.if-kernel-eq2.true }
+samples : (κ : Kernel) (s : List ℤ) → (κ ≡ Linear) ⊎ (κ ≡ Keys) → s ≡ prepared κ s
+samples κ s (inl e) = rw e (prepared_samples 0 s (omega arith))
+samples κ s (inr e) = rw e (prepared_samples 1 s (omega arith))
 
-pub returns-then-kernel-eq2 : goal.returns-then-kernel-eq2
-returns-then-kernel-eq2 c =
-    c.coefficients.ensures ∙ prepared-coefficients c.args.line.now ∙ rw c.if-kernel-eq2.true refl
+pub returns-in-Linear : goal.returns-in-Linear
+returns-in-Linear c = samples c.args.kernel c.args.line.now c.in-Linear.is
 
-pub returns-else-kernel-eq2 : goal.returns-else-kernel-eq2
-returns-else-kernel-eq2 c =
-    let low : c.args.kernel < 2 = omega arith in
-    prepared_samples c.args.kernel c.args.line.now low
+pub returns-in-Spline : goal.returns-in-Spline
+returns-in-Spline c = c.coefficients.ensures ∙ prepared-coefficients c.args.line.now ∙ rw c.in-Spline.is refl

@@ -9,13 +9,6 @@ use Rattle.lists.proofs.Grid.{line_of-length}
 use Rattle.moves.proofs.Border.{set-framed}
 use Rattle.rows.proofs.set_between.Goals as goal
 
-pub load_line-requires : goal.load_line-requires
-load_line-requires c =
-    let a = c.args in
-    let v = c.frame in
-    let long = mid_len a.n (2 * a.n) v.new.row (omega (arith, v.auto.row, c.requires.row_len)) in
-    λ k l. c.requires.by_index k (omega (arith, long))
-
 pub returns : goal.returns
 returns c =
     let a = c.args in

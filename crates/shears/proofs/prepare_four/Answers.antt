@@ -1,21 +1,24 @@
--- `prepare_four` computes the coefficients for kernel 2, and nothing for kernels 0 and 1. Assumes nothing.
+-- `prepare_four` computes the coefficients for the spline, and nothing for linear and Keys. Assumes nothing.
 use Prim.Native.Nat.{ℕ, ◌<◌}
-use mathlib.Core.Path.{◌∙◌}
+use mathlib.Core.Path.{◌≡◌, refl, ◌∙◌}
+use mathlib.Core.List.{List}
+use mathlib.Core.Logic.{◌⊎◌, inl, inr}
 use native.Mathlib.Omega.{arith}
+use lib.IntN.{ℤ}
 use Rattle.lists.specs.Grid.{row_of}
+use Rattle.kernels.specs.declared.Kernel.{Kernel}
+use Rattle.kernels.specs.declared.Kernel.TheVariants.{Linear, Keys}
+use Rattle.moves.specs.InPlace.{prepared}
 use Rattle.moves.proofs.InPlace.{prepared_samples, prepared-coefficients}
 use Rattle.shears.proofs.prepare_four.Goals as goal
 
-pub coefficients_four-requires : goal.coefficients_four-requires
-coefficients_four-requires c =
-    record { le_n = (c.requires.le_n.0, c.requires.le_n.1, c.requires.le_n.2); by_index = c.requires.four_within c.if-kernel-eq2.true }
+samples : (κ : Kernel) (s : List ℤ) → (κ ≡ Linear) ⊎ (κ ≡ Keys) → s ≡ prepared κ s
+samples κ s (inl e) = rw e (prepared_samples 0 s (omega arith))
+samples κ s (inr e) = rw e (prepared_samples 1 s (omega arith))
 
-pub returns-then-kernel-eq2 : goal.returns-then-kernel-eq2
-returns-then-kernel-eq2 c =
-    let a = c.args in
-    λ (i : ℕ) (l : i < 4). rw c.if-kernel-eq2.true (c.coefficients_four.ensures.by_index_2 i l ∙ prepared-coefficients (row_of a.n a.work.now i))
+pub returns-in-Linear : goal.returns-in-Linear
+returns-in-Linear c = λ (i : ℕ) (l : i < 4). samples c.args.kernel (row_of c.args.n c.args.work.now i) c.in-Linear.is
 
-pub returns-else-kernel-eq2 : goal.returns-else-kernel-eq2
-returns-else-kernel-eq2 c =
-    let a = c.args in
-    λ (i : ℕ) (l : i < 4). prepared_samples a.kernel (row_of a.n a.work.now i) (omega arith)
+pub returns-in-Spline : goal.returns-in-Spline
+returns-in-Spline c = λ (i : ℕ) (l : i < 4).
+    c.coefficients_four.ensures.by_index_2 i l ∙ prepared-coefficients (row_of c.args.n c.args.work.now i) ∙ rw c.in-Spline.is refl

@@ -10,7 +10,7 @@ pub returns-then-n-s : goal.returns-then-n-s
 returns-then-n-s c =
     let n = c.line_length-n in
     let a = c.args in
-    step-held a.s.now a.carry.now _ a.out.now a.used n.result _ n.ensures (omega arith) c.hold-held.ensures
+    step-held a.s.now a.held.now.bytes _ a.out.now a.held.now.used n.result _ n.ensures (omega arith) c.hold.ensures
 
 pub slice_bounds-finish-end : goal.slice_bounds-finish-end
 slice_bounds-finish-end c = let s = c.args.s.now in sym (length-take-le c.line_length-n.result s (omega (arith, length_within s)))
@@ -22,4 +22,4 @@ pub returns : goal.returns
 returns c =
     let n = c.line_length-n in
     let a = c.args in
-    step_answered a.s.now a.carry.now a.out.now _ a.used n.result _ n.ensures (omega (arith, length_within a.s.now)) c.finish-wrote.ensures
+    step_answered a.s.now a.held.now.bytes a.out.now _ a.held.now.used n.result _ n.ensures (omega (arith, length_within a.s.now)) c.finish-wrote.ensures

@@ -12,4 +12,4 @@ returns-then-out-end c =
 pub returns : goal.returns
 returns c =
     let a = c.args in
-    accepted_written a.count a.w a.h a.samples.now a.out.now _ _ _ _ _ (omega arith) c.put_head.ensures c.put_at.ensures c.put_samples.ensures c.close.ensures
+    accepted_written a.count a.w a.h a.samples.now a.out.now _ _ _ _ _ (omega arith) (rw c.from.ensures at c.put_head.ensures) c.put_at.ensures c.put_samples.ensures c.close.ensures

@@ -38,12 +38,6 @@ module _ (s : Start) where
   answer : (k : ℕ) → At k (asked body done)
   answer k = need k body ranges
 
-pub overflow_mul-result : goal.overflow_mul-result
-overflow_mul-result c = answer (goal.at.overflow_mul-result c).Start 0
-
-pub overflow_mul-result-2 : goal.overflow_mul-result-2
-overflow_mul-result-2 c = answer (goal.at.overflow_mul-result-2 c).Start 1
-
 pub overflow_add-result : goal.overflow_add-result
 overflow_add-result c = answer (goal.at.overflow_add-result c).Start 2
 

@@ -2,7 +2,6 @@
 use mathlib.Core.Path.{◌≡◌, ap, ◌∙◌}
 use Prim.Native.Nat.{◌≤◌}
 use native.Mathlib.Omega.{arith}
-use lib.Dec.{lit≤}
 use lib.IntN.{ℤ, pos, nat_abs, ◌+ℤ◌, ◌-ℤ◌, ◌*ℤ◌}
 use lib.Signed.{◌≤ℤ◌, ◌<ℤ◌, shr_z}
 use mir.Syntax.{w32, w64}
@@ -12,12 +11,13 @@ use Rattle.arith.proofs.Bridge.{bridge, all1, all2}
 use Rattle.arith.proofs.Divide.{division}
 use Rattle.arith.proofs.Ring.{ring, reify, vars1}
 use Rattle.arith.proofs.Machine.{read_back}
-use Rattle.arith.proofs.Compute.{Code, arg, cast, ◌>>ᵐ◌, Ranges, need, value}
-use Rattle.kernels.specs.Kernel.{Linear, weight}
+use Rattle.arith.proofs.Compute.{Code, arg, cast, ◌>>ᵐ◌, Ranges, value}
+use Rattle.kernels.specs.declared.Kernel.TheVariants.{Linear}
+use Rattle.kernels.specs.Kernel.{weight}
 use Rattle.moves.specs.declared.TwoWeights.{TwoWeights}
 use Rattle.moves.specs.InPlace.{Middle, Shares}
 use Rattle.weighing.proofs.two_weights.Goals as goal
-use Rattle.weighing.proofs.two_weights.Goals.{After-four_weights-w, After-wide}
+use Rattle.weighing.proofs.two_weights.Goals.{After-four_weights-w, After-from}
 
 first_weight : (f : ℤ) → weight Linear f 1 ≡ pos 16777216 *ℤ (pos 4096 -ℤ f)
 first_weight = vars1 _ (simp reify (λ ρ. ring tt))
@@ -49,8 +49,8 @@ ranges = all2 _ (simp division (omega arith))
 divided : (w x : ℤ) → nat_abs x ≤ 4096 → w ≡ pos 16777216 *ℤ x → shr_z w 16777216 ≡ x
 divided = all2 _ (simp division (omega arith))
 
-f_is : (c : After-wide) → to_z w64 (of_z w64 c.wide.result) ≡ c.args.f
-f_is c = read_back w64 c.wide.result c.wide.type_inv ∙ c.wide.ensures ∙ to_z-of_z c.ranges.f
+f_is : (c : After-from) → to_z w64 (of_z w64 c.from.result) ≡ c.args.f
+f_is c = read_back w64 c.from.result c.from.type_inv ∙ c.from.ensures ∙ to_z-of_z c.ranges.f
 
 module _ (p : After-four_weights-w) where
   abbrev f : ℤ
@@ -70,15 +70,6 @@ module _ (p : After-four_weights-w) where
 
   second_ranges : Ranges (code p.four_weights-w.result.w2)
   second_ranges = ranges p.four_weights-w.result.w2 f share.0 second_is
-
-pub four_weights-w-requires : goal.four_weights-w-requires
-four_weights-w-requires c = (lit≤ tt, rw (f_is (goal.at.four_weights-w-requires c).After-wide) (rest c.args.f c.requires.0 c.requires.1).0)
-
-pub overflow_cast-result : goal.overflow_cast-result
-overflow_cast-result c = need 0 (code c.four_weights-w.result.w1) (first_ranges (goal.at.overflow_cast-result c).After-four_weights-w)
-
-pub overflow_cast-result-2 : goal.overflow_cast-result-2
-overflow_cast-result-2 c = need 0 (code c.four_weights-w.result.w2) (second_ranges (goal.at.overflow_cast-result-2 c).After-four_weights-w)
 
 pub returns : goal.returns
 returns c =
