@@ -41,7 +41,7 @@ use Rattle.moves.proofs.Border.{move_in-length, held-fraction, background_good}
 use Rattle.moves.proofs.Kept.{kept_in_place}
 use Rattle.moves.proofs.Range.{background_between, samples_between, extremes_in_range, move_in-between, kernel_linear}
 use Rattle.lines.specs.declared.Moved.{Moved}
-use Rattle.lines.specs.Answer.{farthest, range, work_places, too_short, judged_by, Passed, judged, Movable, is_interpolated, outcome_of, LineMoved}
+use Rattle.lines.specs.Answer.{farthest, range, work_places, too_short, judged_as, judged_by, Passed, judged, Movable, is_interpolated, outcome_of, LineMoved}
 
 -- the work that number 2 asks for is what a caller is told, of every length that number 1 does not refuse
 pub work_asked : (n held work : ℕ) → bad_side n ≡ false → too_short n held work ≡ (short held n || short work (work_places n))
@@ -95,17 +95,17 @@ pub answered_ok : {A : Type 0} (v : Verdict) (x y : A) → answer_by v x ≡ Ok 
 answered_ok (Ok u) x y e = (refl, cc)
 answered_ok (Err own) x y e = absurd cc
 
--- ---- what an accepted call has passed
-module _ (n kernel : ℕ) (d : ℤ) (own : Verdict) (line : List ℤ) (held work : ℕ) where
-  pub passed : judged_by n kernel d own line held work ≡ accepted → (own ≡ accepted) × (kernel ≤ 2) × Passed n d line held work
-  unfolding judged_by too_short
-  passed e =
-      let one = refused_if-accepted (bad_side n) BadSize _ _ e in
-      let two = refused_if-accepted (too_short n held work) TooShort _ _ one.1 in
-      let four = refused_if-accepted (beyond_of farthest d) TooFar _ _ two.1 in
-      let five = refused_if-accepted (bad_kernel kernel) BadKernel _ _ four.1 in
+-- ---- what an accepted call has passed, whatever the type of its own refusals
+module _ {E : Type 0} (told : Refusal → E) (n kernel : ℕ) (d : ℤ) (own : Result Unit E) (line : List ℤ) (held work : ℕ) where
+  pub passed_as : judged_as told n kernel d own line held work ≡ Ok tt → (own ≡ Ok tt) × (kernel ≤ 2) × Passed n d line held work
+  unfolding too_short
+  passed_as e =
+      let one = refused_if-accepted (bad_side n) (told BadSize) _ _ e in
+      let two = refused_if-accepted (too_short n held work) (told TooShort) _ _ one.1 in
+      let four = refused_if-accepted (beyond_of farthest d) (told TooFar) _ _ two.1 in
+      let five = refused_if-accepted (bad_kernel kernel) (told BadKernel) _ _ four.1 in
       let other = and_then-accepted own _ _ five.1 in
-      let six = (nothing_bad range n 1 line).0 (of_found-accepted BadSample (first_bad range n 1 line) other.1) in
+      let six = (nothing_bad range n 1 line).0 (of_found-accepted (λ p. told (BadSample p)) (first_bad range n 1 line) other.1) in
       let buffers = or_false (short held n) _ two.0 in
       let side = side_good one.0 in (
         other.0,
@@ -121,9 +121,9 @@ module _ (n kernel : ℕ) (d : ℤ) (own : Verdict) (line : List ℤ) (held work
       )
 
   -- and one that has passed all the others is judged by its own test alone
-  pub only_own : kernel ≤ 2 → Passed n d line held work → judged_by n kernel d own line held work ≡ own
-  unfolding judged_by too_short bad_side short bad_kernel
-  only_own known p =
+  pub only_own_as : kernel ≤ 2 → Passed n d line held work → judged_as told n kernel d own line held work ≡ own
+  unfolding too_short bad_side short bad_kernel
+  only_own_as known p =
       rw (
         ne_eqb n 0 (λ e. omega (arith, p.some)),
         le-ltb 1024 n p.few,
@@ -135,9 +135,19 @@ module _ (n kernel : ℕ) (d : ℤ) (own : Verdict) (line : List ℤ) (held work
       )
       (alone own)
     where
-      alone : (v : Verdict) → and_then v accepted ≡ v
+      alone : (v : Result Unit E) → and_then v (Ok tt) ≡ v
       alone (Ok u) = refl
       alone (Err refusal) = refl
+
+-- the same where they are among the shared ones
+module _ (n kernel : ℕ) (d : ℤ) (own : Verdict) (line : List ℤ) (held work : ℕ) where
+  pub passed : judged_by n kernel d own line held work ≡ accepted → (own ≡ accepted) × (kernel ≤ 2) × Passed n d line held work
+  unfolding judged_by
+  passed e = passed_as (λ refusal. refusal) n kernel d own line held work e
+
+  pub only_own : kernel ≤ 2 → Passed n d line held work → judged_by n kernel d own line held work ≡ own
+  unfolding judged_by
+  only_own known p = only_own_as (λ refusal. refusal) n kernel d own line held work known p
 
 -- the same of a move
 module _ (n kernel : ℕ) (d : ℤ) (β : Border) (line : List ℤ) (result work : ℕ) where

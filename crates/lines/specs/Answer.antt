@@ -27,15 +27,19 @@ unfoldable pub too_short : ℕ → ℕ → ℕ → Bool
 too_short n held work = short held n || short work (6 * n)
 
 -- the numbers of every call on a line that is lent: 1, 2, 4, 5, what the call's own test says, and 6. `held` are the places of the shortest buffer that
--- holds a line, `work` those of the work
-unfoldable pub judged_by : ℕ → ℕ → ℤ → Verdict → List ℤ → ℕ → ℕ → Verdict
-judged_by n kernel d own line held work =
-    refused_if (bad_side n) BadSize
-    (refused_if (too_short n held work) TooShort
-    (refused_if (beyond_of farthest d) TooFar
-    (refused_if (bad_kernel kernel) BadKernel
+-- holds a line, `work` those of the work. The call's own refusals may be of any type, E, which has each shared one as `told` says
+abbrev pub judged_as : {E : Type 0} → (Refusal → E) → ℕ → ℕ → ℤ → Result Unit E → List ℤ → ℕ → ℕ → Result Unit E
+judged_as told n kernel d own line held work =
+    refused_if (bad_side n) (told BadSize)
+    (refused_if (too_short n held work) (told TooShort)
+    (refused_if (beyond_of farthest d) (told TooFar)
+    (refused_if (bad_kernel kernel) (told BadKernel)
     (and_then own
-    (of_found BadSample (first_bad range n 1 line))))))
+    (of_found (λ p. told (BadSample p)) (first_bad range n 1 line))))))
+
+-- the same of a call whose own refusals are among the shared ones
+unfoldable pub judged_by : ℕ → ℕ → ℤ → Verdict → List ℤ → ℕ → ℕ → Verdict
+judged_by n kernel d own line held work = judged_as (λ refusal. refusal) n kernel d own line held work
 
 -- what a call that is accepted has passed, but that its kernel is known
 pub record Passed (n : ℕ) (d : ℤ) (line : List ℤ) (held work : ℕ) : Type 0 where

@@ -7,11 +7,11 @@ ghost use Rattle.refusals.specs.Judging.{answer_by};
 ghost use Rattle.kernels.specs.Kernel.{kernel_of};
 ghost use Rattle.moves.specs.Border.{move_in};
 ghost use Rattle.moves.specs.Row.{places};
-ghost use Rattle.lines.specs.Answer.{work_places, too_short, judged_by, Movable, is_interpolated, LineMoved};
+ghost use Rattle.lines.specs.Answer.{work_places, too_short, judged_as, Movable, is_interpolated, LineMoved};
 
 use kernels::Kernel;
 use lists::Extremes;
-use refusals::Refusal;
+use refusals::{Refusal, Refuses};
 use settings::Border;
 
 // The farthest move, in 4,096ths of a sample, and the range of samples.
@@ -43,31 +43,36 @@ fn too_short(n: usize, held: usize, work: usize) -> bool
 
 // Numbers 1, 2, 4, 5, what the call's own test says, and 6; hands back the kernel of its number. The shortest of the buffers that hold a line has
 // `held` places, the work `work`.
-pub fn judge(
+pub fn judge<E: Refuses>(
     n: usize,
     kernel: u32,
     d: i32,
-    own: Result<(), Refusal>,
+    own: Result<(), E>,
     line: &[i32],
     held: usize,
     work: usize,
-) -> Result<Kernel, Refusal>
+) -> Result<Kernel, E>
     requires { held ≤ length line.now }
-    ensures { result ≡ answer_by (judged_by n kernel d own line.now held work) (kernel_of kernel) }
+    ensures { result ≡ answer_by (judged_as E.of_refusal n kernel d own line.now held work) (kernel_of kernel) }
 {
     if refusals::bad_side(n) {
-        return Err(Refusal::BadSize);
+        return Err(E::of(Refusal::BadSize));
     }
     if too_short(n, held, work) {
-        return Err(Refusal::TooShort);
+        return Err(E::of(Refusal::TooShort));
     }
     if refusals::beyond(d, FARTHEST) {
-        return Err(Refusal::TooFar);
+        return Err(E::of(Refusal::TooFar));
     }
-    let known = Kernel::try_from(kernel)?;
+    let known = match Kernel::try_from(kernel) {
+        Ok(known) => known,
+        Err(refusal) => return Err(E::of(refusal)),
+    };
     own?;
-    refusals::scanned(line, n, 1, RANGE)?;
-    Ok(known)
+    match refusals::scanned(line, n, 1, RANGE) {
+        Ok(()) => Ok(known),
+        Err(refusal) => Err(E::of(refusal)),
+    }
 }
 
 // The move of an accepted line of n samples.

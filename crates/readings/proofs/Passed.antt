@@ -10,14 +10,15 @@ use lib.ListN.{length, take}
 use lib.Seq.{get_or-take, length-take-le}
 use borrow.Author.Tests.{leb-false, le-ltb, ne_eqb}
 use Rattle.lists.proofs.Rows.{row_in}
-use Rattle.std.specs.Prelude.{Err}
+use Rattle.std.specs.Prelude.{Result, Ok, Err}
+use Rattle.refusals.specs.declared.Refusal.{Refusal}
 use Rattle.refusals.specs.declared.Refusal.TheVariants.{BadSize, TooShort, BadSample, Outside, BadMove}
 use Rattle.refusals.specs.Tests.{bad_side, bad_size, short, beyond_of, first_from, first_bad, AllWithin}
 use Rattle.refusals.specs.Judging.{Verdict, accepted, refused_if, of_found, and_then}
 use Rattle.refusals.proofs.Tests.{or_false, size_good, short_good}
 use Rattle.refusals.proofs.First.{nothing_bad}
 use Rattle.refusals.proofs.Judging.{refused_if-accepted, of_found-accepted, and_then-accepted}
-use Rattle.readings.specs.Answers.{range, judged_by, judged, outside, judged_point}
+use Rattle.readings.specs.Answers.{range, judged_as, judged_by, judged, outside, judged_point}
 
 -- a call's own number is told after 2 and ahead of 6, computed of a picture of one bad sample
 bad : List ℤ
@@ -38,14 +39,14 @@ pub record Passed (width height places : ℕ) (picture : List ℤ) : Type 0 wher
   pub room : height * width ≤ places
   pub within : AllWithin range (height * width) picture
 
-module _ (width height places : ℕ) (own : Verdict) (picture : List ℤ) where
+-- a call whose own refusals may be of any type
+module _ {E : Type 0} (told : Refusal → E) (width height places : ℕ) (own : Result Unit E) (picture : List ℤ) where
   -- an accepted call has passed these, and its own number
-  pub passed_by : judged_by width height places own picture ≡ accepted → Passed width height places picture × (own ≡ accepted)
-  unfolding judged_by
-  passed_by e =
-      let scan = of_found BadSample (first_bad range width height picture) in
-      let a = refused_if-accepted (bad_size width height) BadSize (refused_if (short places (height * width)) TooShort (and_then own scan)) _ e in
-      let b = refused_if-accepted (short places (height * width)) TooShort (and_then own scan) _ a.1 in
+  pub passed_as : judged_as told width height places own picture ≡ Ok tt → Passed width height places picture × (own ≡ Ok tt)
+  passed_as e =
+      let scan = of_found (λ p. told (BadSample p)) (first_bad range width height picture) in
+      let a = refused_if-accepted (bad_size width height) (told BadSize) (refused_if (short places (height * width)) (told TooShort) (and_then own scan)) _ e in
+      let b = refused_if-accepted (short places (height * width)) (told TooShort) (and_then own scan) _ a.1 in
       let d = and_then-accepted own scan _ b.1 in
       let size = size_good a.0 in (
         record {
@@ -55,15 +56,15 @@ module _ (width height places : ℕ) (own : Verdict) (picture : List ℤ) where
           some = mul-pos size.1.0 size.0.0;
           few = mul-le-mul size.1.1 size.0.1;
           room = short_good b.0;
-          within = (nothing_bad range width height picture).0 (of_found-accepted BadSample (first_bad range width height picture) d.1);
+          within = (nothing_bad range width height picture).0 (of_found-accepted (λ p. told (BadSample p)) (first_bad range width height picture) d.1);
         },
         d.0,
       )
 
   -- and one that has is accepted
-  pub by_accepted : Passed width height places picture → own ≡ accepted → judged_by width height places own picture ≡ accepted
-  unfolding judged_by bad_size bad_side short
-  by_accepted p e =
+  pub as_accepted : Passed width height places picture → own ≡ Ok tt → judged_as told width height places own picture ≡ Ok tt
+  unfolding bad_size bad_side short
+  as_accepted p e =
       rw (
         ne_eqb width 0 (some p.wide),
         le-ltb 1024 width p.sides.0,
@@ -77,6 +78,16 @@ module _ (width height places : ℕ) (own : Verdict) (picture : List ℤ) where
     where
       some : {n : ℕ} → 1 ≤ n → n ≡ 0 → ⊥
       some h e = omega arith
+
+-- the same where they are among the shared ones
+module _ (width height places : ℕ) (own : Verdict) (picture : List ℤ) where
+  pub passed_by : judged_by width height places own picture ≡ accepted → Passed width height places picture × (own ≡ accepted)
+  unfolding judged_by
+  passed_by e = passed_as (λ refusal. refusal) width height places own picture e
+
+  pub by_accepted : Passed width height places picture → own ≡ accepted → judged_by width height places own picture ≡ accepted
+  unfolding judged_by
+  by_accepted p e = as_accepted (λ refusal. refusal) width height places own picture p e
 
 pub passed : (width height places : ℕ) (picture : List ℤ) → judged width height places picture ≡ accepted → Passed width height places picture
 unfolding judged judged_by

@@ -23,13 +23,17 @@ unfoldable pub judged : ℕ → ℕ → ℕ → List ℤ → Verdict
 judged width height places picture =
     refused_if (bad_size width height) BadSize (refused_if (short places (height * width)) TooShort (of_found BadSample (first_bad range width height picture)))
 
--- the same with the call's own number after 2
-unfoldable pub judged_by : ℕ → ℕ → ℕ → Verdict → List ℤ → Verdict
-judged_by width height places own picture =
-    refused_if (bad_size width height) BadSize
-    (refused_if (short places (height * width)) TooShort
+-- the same with the call's own number after 2. The call's own refusals may be of any type, E, which has each shared one as `told` says
+abbrev pub judged_as : {E : Type 0} → (Refusal → E) → ℕ → ℕ → ℕ → Result Unit E → List ℤ → Result Unit E
+judged_as told width height places own picture =
+    refused_if (bad_size width height) (told BadSize)
+    (refused_if (short places (height * width)) (told TooShort)
     (and_then own
-    (of_found BadSample (first_bad range width height picture))))
+    (of_found (λ p. told (BadSample p)) (first_bad range width height picture))))
+
+-- and of a call whose own refusals are among the shared ones
+unfoldable pub judged_by : ℕ → ℕ → ℕ → Verdict → List ℤ → Verdict
+judged_by width height places own picture = judged_as (λ refusal. refusal) width height places own picture
 
 -- 7: a point outside the picture
 unfoldable pub outside : ℕ → ℕ → ℕ → ℕ → Bool

@@ -7,10 +7,10 @@ ghost use Rattle.std.specs.Prelude.{◌≡◌, ◌*◌, ◌≤◌, ℤ, length, 
 ghost use Rattle.lists.specs.Tab.{tab};
 ghost use Rattle.lists.specs.Line.{line};
 ghost use Rattle.readings.specs.Sample.{grey_of, float_of, reading_of};
-ghost use Rattle.readings.specs.Answers.{range, judged_by, judged, outside, judged_point, Out, FloatsOut, ReadingAt, SummaryOf};
+ghost use Rattle.readings.specs.Answers.{range, judged_as, judged, outside, judged_point, Out, FloatsOut, ReadingAt, SummaryOf};
 ghost use Rattle.refusals.specs.Tests.{AllWithin};
 
-use refusals::Refusal;
+use refusals::{Refusal, Refuses};
 
 // The range of samples, either way from 0.
 const RANGE: i32 = 1_048_576;
@@ -88,24 +88,27 @@ impl Form for f32 {
 
 // Numbers 1 and 2 of a call that lends a picture, then `own`, which is the verdict under the call's own number, then 6. The shortest lent buffer has
 // `places` places.
-pub fn judge_by(
+pub fn judge_by<E: Refuses>(
     width: usize,
     height: usize,
     places: usize,
-    own: Result<(), Refusal>,
+    own: Result<(), E>,
     picture: &[i32],
-) -> Result<(), Refusal>
+) -> Result<(), E>
     requires { places ≤ length picture.now }
-    ensures { result ≡ judged_by width height places own picture.now }
+    ensures { result ≡ judged_as E.of_refusal width height places own picture.now }
 {
     if refusals::bad_size(width, height) {
-        return Err(Refusal::BadSize);
+        return Err(E::of(Refusal::BadSize));
     }
     if places < height * width {
-        return Err(Refusal::TooShort);
+        return Err(E::of(Refusal::TooShort));
     }
     own?;
-    refusals::scanned(picture, width, height, RANGE)
+    match refusals::scanned(picture, width, height, RANGE) {
+        Ok(()) => Ok(()),
+        Err(refusal) => Err(E::of(refusal)),
+    }
 }
 
 // Numbers 1, 2 and 6 of a call that has no number of its own there.

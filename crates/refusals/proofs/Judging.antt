@@ -1,5 +1,5 @@
 -- Chains of tests: what an accepted call has passed, and that number 0 says that it is one. Assumes nothing.
-use mathlib.Core.Path.{◌≡◌, refl}
+use mathlib.Core.Path.{◌≡◌, refl, ap}
 use mathlib.Core.Bool.{Bool, true, false}
 use Rattle.std.specs.Prelude.{Option, Some, None, Result, Ok, Err}
 use Rattle.refusals.specs.declared.Place.{Place}
@@ -8,17 +8,23 @@ use Rattle.refusals.specs.declared.Refusal.TheVariants.{BadSize, TooShort, BadCe
 use Rattle.refusals.specs.Judging.{number, Verdict, accepted, refused_if, of_found, and_then, number_of}
 
 -- an accepted call has passed the test, and the later ones
-pub refused_if-accepted : {A : Type 0} (t : Bool) (refusal : Refusal) (later : Result A Refusal) (x : A)
+pub refused_if-accepted : {A E : Type 0} (t : Bool) (refusal : E) (later : Result A E) (x : A)
     → refused_if t refusal later ≡ Ok x → (t ≡ false) × (later ≡ Ok x)
 refused_if-accepted true refusal later x e = absurd cc
 refused_if-accepted false refusal later x e = (refl, e)
 
 -- where such a test accepts, nothing was found
-pub of_found-accepted : (refusal : Place → Refusal) (f : Option Place) → of_found refusal f ≡ accepted → f ≡ None
+pub of_found-accepted : {E : Type 0} (refusal : Place → E) (f : Option Place) → of_found refusal f ≡ Ok tt → f ≡ None
 of_found-accepted refusal None e = refl
 of_found-accepted refusal (Some p) e = absurd cc
 
-pub and_then-accepted : {A : Type 0} (v : Verdict) (later : Result A Refusal) (x : A) → and_then v later ≡ Ok x → (v ≡ accepted) × (later ≡ Ok x)
+-- and where it refuses, a call that has refusals of its own is refused by what it has for that refusal
+pub of_found-told : {E : Type 0} (told : Refusal → E) (refusal : Place → Refusal) (f : Option Place) (r : Refusal)
+    → of_found refusal f ≡ Err r → of_found (λ p. told (refusal p)) f ≡ Err (told r)
+of_found-told told refusal None r e = absurd cc
+of_found-told told refusal (Some p) r e = let same : refusal p ≡ r = cc in ap (λ x. Err (told x)) same
+
+pub and_then-accepted : {A E : Type 0} (v : Result Unit E) (later : Result A E) (x : A) → and_then v later ≡ Ok x → (v ≡ Ok tt) × (later ≡ Ok x)
 and_then-accepted (Ok u) later x e = (refl, e)
 and_then-accepted (Err refusal) later x e = absurd cc
 

@@ -35,23 +35,24 @@ Verdict = Result Unit Refusal
 abbrev pub accepted : Verdict
 accepted = Ok tt
 
--- refused where its test holds; else what the later tests say. A chain of these, the lowest number first, answers the lowest number that applies
-abbrev pub refused_if : {A : Type 0} → Bool → Refusal → Result A Refusal → Result A Refusal
+-- refused where its test holds; else what the later tests say. A chain of these, the lowest number first, answers the lowest number that applies. The
+-- refusals of a chain may be of any type, E
+abbrev pub refused_if : {A E : Type 0} → Bool → E → Result A E → Result A E
 refused_if true refusal later = Err refusal
 refused_if false refusal later = later
 
 -- refused by its place where a sample was found: 6, and 15 of levelling
-abbrev pub of_found : (Place → Refusal) → Option Place → Verdict
-of_found refusal None = accepted
+abbrev pub of_found : {E : Type 0} → (Place → E) → Option Place → Result Unit E
+of_found refusal None = Ok tt
 of_found refusal (Some p) = Err (refusal p)
 
 -- one verdict, and then what follows it: the first stands where it is a refusal
-abbrev pub and_then : {A : Type 0} → Verdict → Result A Refusal → Result A Refusal
+abbrev pub and_then : {A E : Type 0} → Result Unit E → Result A E → Result A E
 and_then (Ok u) later = later
 and_then (Err refusal) later = Err refusal
 
 -- what an accepted call answers
-abbrev pub answer_by : {A : Type 0} → Verdict → A → Result A Refusal
+abbrev pub answer_by : {A E : Type 0} → Result Unit E → A → Result A E
 answer_by (Ok u) x = Ok x
 answer_by (Err refusal) x = Err refusal
 

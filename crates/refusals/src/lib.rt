@@ -82,6 +82,24 @@ impl Refusal {
     }
 }
 
+// The errors of a call that has refusals of its own beside the shared ones.
+pub trait Refuses: Copy {
+    ghost use Rattle.refusals.specs.declared.Refusal.{Refusal};
+
+    ghost of_refusal: { Refusal → Self };
+
+    fn of(refusal: Refusal) -> Self
+        ensures { result ≡ of_refusal refusal };
+}
+
+impl Refuses for Refusal {
+    ghost of_refusal = { λ refusal. refusal };
+
+    fn of(refusal: Refusal) -> Refusal {
+        refusal
+    }
+}
+
 // Whether a side is 0 or over `most` samples.
 pub fn side_beyond(side: usize, most: usize) -> bool
     ensures { result ≡ side_beyond most side }

@@ -9,6 +9,7 @@ use Rattle.std.specs.Prelude.{Err}
 use Rattle.refusals.specs.declared.Refusal.TheVariants.{Outside}
 use Rattle.refusals.specs.Judging.{Verdict, accepted, refused_if, answer_by}
 use Rattle.kernels.specs.Kernel.{kernel_of}
+use Rattle.lines.specs.Answer.{judged_by}
 use Rattle.lines.proofs.Answer.{answered_err, answered_ok}
 use Rattle.explanations.specs.Answer.{judged}
 use Rattle.explanations.proofs.Call.{explainable, refused-answer, accepted-answer}
@@ -26,7 +27,7 @@ module _ (c : After-judge) where
   verdict = let a = c.args in judged a.n a.kernel a.d a.k a.line.now (length a.work.now)
 
   verdict_is : c.judge.result ≡ answer_by verdict (kernel_of c.args.kernel)
-  unfolding judged
+  unfolding judged judged_by
   verdict_is = rw (to_z-of_z c.ranges.d, own_is) at c.judge.ensures
 
 -- an accepted call: its verdict, and that the kernel handed back is that of its number

@@ -11,7 +11,7 @@ use Rattle.refusals.specs.declared.Refusal.TheVariants.{BadBackground}
 use Rattle.refusals.specs.Judging.{Verdict, accepted, refused_if, answer_by}
 use Rattle.kernels.specs.Kernel.{kernel_of}
 use Rattle.moves.specs.Border.{bad_background}
-use Rattle.lines.specs.Answer.{judged, Movable}
+use Rattle.lines.specs.Answer.{judged_by, judged, Movable}
 use Rattle.lines.proofs.Answer.{answered_err, answered_ok, movable, line_refused, line-moved}
 use Rattle.lines.proofs.move_line.Goals as goal
 use Rattle.lines.proofs.move_line.Goals.{After-judge, In_ok-kernel, then-bad_background, else-bad_background}
@@ -27,7 +27,7 @@ module _ (c : After-judge) where
   verdict = let a = c.args in judged a.n a.kernel a.d a.border a.line.now (length a.res.now) (length a.work.now)
 
   verdict_is : c.judge.result ≡ answer_by verdict (kernel_of c.args.kernel)
-  unfolding judged
+  unfolding judged judged_by
   verdict_is = rw (to_z-of_z c.ranges.d, own_is, c.min-held.ensures) at c.judge.ensures
 
 -- an accepted call: its verdict, and that the kernel handed back is that of its number
