@@ -4,7 +4,7 @@ use Prim.Native.Nat.{ℕ, zero, suc, ◌+◌, ◌*◌, ◌/◌, ◌%◌, ◌≤�
 use mathlib.Core.Path.{◌≡◌, refl, sym, ap, ◌∙◌, subst}
 use mathlib.Core.Bool.{Bool, true, false, ◌||◌}
 use mathlib.Core.List.{List}
-use native.Mathlib.Nat.{div-add-mod', div-lt_iff_lt-mul, mod-lt}
+use native.Mathlib.Nat.{div-add-mod', div-lt_iff_lt-mul, mod-lt, zero-div, zero-mod}
 use native.Mathlib.Omega.{arith}
 use borrow.Author.Tests.{ltb-false, le-ltb, ne_eqb}
 use lib.IntN.{ℤ}
@@ -126,18 +126,23 @@ pub record Sited (H : ℕ) (refusal : Refusal) : Type 0 where
   pub row : (verdict.place (refused_at H refusal).refusal).row ≡ only_six (verdict.number refusal) ((verdict.place refusal).row % H)
   pub column : (verdict.place (refused_at H refusal).refusal).column ≡ only_six (verdict.number refusal) (verdict.place refusal).column
 
-abbrev Sites : ℕ → Verdict → Type 0
-Sites H v = (refusal : Refusal) → v ≡ Err refusal → Sited H refusal
-
-sited_if : {H : ℕ} (t : Bool) (own : Refusal) (later : Verdict) → Sited H own → Sites H later → Sites H (refused_if t own later)
-sited_if {H} true own later here after refusal e = let same : own ≡ refusal = cc in subst (Sited H) same here
-sited_if false own later here after refusal e = after refusal e
-
-sited_found : (H : ℕ) (f : Option Place) → Sites H (of_found variants.BadSample f)
-sited_found H None refusal e = absurd cc
-sited_found H (Some p) refusal e =
-    let same : variants.BadSample p ≡ refusal = cc in
-    subst (Sited H) same (record { number = refl; depth = refl; row = refl; column = refl })
+-- every refusal is told so, whatever place it holds, and the height may be 0
+pub sited : (H : ℕ) (refusal : Refusal) → Sited H refusal
+sited H variants.BadSize = record { number = refl; depth = refl; row = refl; column = refl }
+sited H variants.TooShort = record { number = refl; depth = refl; row = refl; column = refl }
+sited H variants.BadCentre = record { number = refl; depth = refl; row = refl; column = refl }
+sited H variants.TooFar = record { number = refl; depth = refl; row = refl; column = refl }
+sited H variants.BadKernel = record { number = refl; depth = refl; row = refl; column = refl }
+sited H (variants.BadSample p) = record { number = refl; depth = refl; row = refl; column = refl }
+sited H variants.TooLarge = record { number = refl; depth = sym (zero-div H); row = sym (zero-mod H); column = refl }
+sited H variants.Outside = record { number = refl; depth = refl; row = refl; column = refl }
+sited H variants.TooSteep = record { number = refl; depth = refl; row = refl; column = refl }
+sited H variants.Malformed = record { number = refl; depth = refl; row = refl; column = refl }
+sited H variants.BadBackground = record { number = refl; depth = refl; row = refl; column = refl }
+sited H variants.OtherSize = record { number = refl; depth = refl; row = refl; column = refl }
+sited H (variants.BelowThreshold p) = record { number = refl; depth = refl; row = refl; column = refl }
+sited H variants.BadMove = record { number = refl; depth = refl; row = refl; column = refl }
+sited H variants.BadPlane = record { number = refl; depth = refl; row = refl; column = refl }
 
 -- ---- the whole chain
 module _ (W H D plane : ℕ) (set : Setting) (block : List ℤ) (result work : ℕ) where
@@ -218,15 +223,3 @@ module _ (W H D plane : ℕ) (set : Setting) (block : List ℤ) (result work : �
   -- which is the first beyond the range, in the order of storage
   pub refused_sample : let v = judged W H D plane set block result work in number_of v ≡ 6 → BadSample W H D block (row_of v / H) (row_of v % H) (column_of v)
   refused_sample e = bad_below W H D block _ _ ((first_bad_lem range W (D * H) block _ _).0 (six_names_found e))
-
-  -- ---- a refusal by depth, row and column
-  pub sites : (refusal : Refusal) → judged W H D plane set block result work ≡ Err refusal → Sited H refusal
-  sites refusal e =
-      sited_if (bad_sides W H D) variants.BadSize _ (record { number = refl; depth = refl; row = refl; column = refl })
-      (sited_if (bad_plane plane) variants.BadPlane _ (record { number = refl; depth = refl; row = refl; column = refl })
-      (sited_if two variants.TooShort _ (record { number = refl; depth = refl; row = refl; column = refl })
-      (sited_if (bad_centre s.columns s.rows set) variants.BadCentre _ (record { number = refl; depth = refl; row = refl; column = refl })
-      (sited_if (bad_shears set) variants.TooFar _ (record { number = refl; depth = refl; row = refl; column = refl })
-      (sited_if (bad_kernel set.kernel) variants.BadKernel _ (record { number = refl; depth = refl; row = refl; column = refl })
-      (sited_if (bad_background set.border) variants.BadBackground _ (record { number = refl; depth = refl; row = refl; column = refl })
-      (sited_found H (first_bad range W (D * H) block)))))))) refusal (sym in_order ∙ e)

@@ -37,7 +37,7 @@ use Rattle.blocks.specs.Judge.{room_of, Fit}
 use Rattle.blocks.specs.Answer.{Outcome, number_of, depth_of, row_of, column_of, refused_at, count_over, slice_rows, smallest_over, largest_over, slice_outcome, verdict_of, Answered, Answer}
 use Rattle.blocks.proofs.Planes.{stands, slices_whole}
 use Rattle.blocks.proofs.Straight.{third_slice, straight_slice_lem, block_slice}
-use Rattle.blocks.proofs.Accepted.{Side, sides_of, accepted_fit, zero-accepted, BadSample, refused_sample, Sited}
+use Rattle.blocks.proofs.Accepted.{Side, sides_of, accepted_fit, zero-accepted, BadSample, refused_sample, sited}
 
 -- ---- a block that no number refuses
 module _ {W H D plane : ℕ} {set : Setting} {block : List ℤ} {places room : ℕ} (f : Fit W H D plane set block places room) where
@@ -195,15 +195,16 @@ module _ {W H D plane : ℕ} {set : Setting} {block : List ℤ} {places room : �
 
 -- ---- the answer
 module _ (v : Verdict) (W H D plane : ℕ) (set : Setting) (block result work : List ℤ) where
-  pub refused-answer : (refusal : Refusal) → v ≡ Err refusal → Sited H refusal
+  pub refused-answer : (refusal : Refusal) → v ≡ Err refusal
       → Answered v W H D plane (slices_of W H D plane) set block result work (Err (refused_at H refusal)) result work
-  refused-answer refusal e sited =
+  refused-answer refusal e =
+      let told = sited H refusal in
       record {
         outcome = rw e refl;
-        number = rw e sited.number;
-        depth = rw e sited.depth;
-        row = rw e sited.row;
-        column = rw e sited.column;
+        number = rw e told.number;
+        depth = rw e told.depth;
+        row = rw e told.row;
+        column = rw e told.column;
         count = rw e refl;
         smallest = rw e refl;
         largest = rw e refl;

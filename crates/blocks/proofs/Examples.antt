@@ -13,7 +13,7 @@ use Rattle.lists.specs.Tab.{tab}
 use Rattle.lists.specs.Line.{wrap}
 use Rattle.lists.specs.Ends.{picked, extremes_of}
 use Rattle.std.specs.Prelude.{Err}
-use Rattle.refusals.specs.declared.Refusal.TheVariants.{BadSize, BadPlane, TooShort, BadCentre, TooFar, BadKernel, BadBackground}
+use Rattle.refusals.specs.declared.Refusal.TheVariants.{BadSize, BadPlane, TooShort, BadCentre, TooFar, BadKernel, BadBackground, BelowThreshold}
 use Rattle.refusals.specs.Judging.{Verdict, accepted}
 use Rattle.refusals.specs.Tests.{short, bad_kernel, beyond_of, first_from, first_bad}
 use Rattle.refusals.proofs.First.{one_number_good}
@@ -176,8 +176,10 @@ last-named :
 unfolding judged bad_sides bad_plane too_short short bad_centre bad_shears bad_kernel bad_background first_bad first_from beyond_of floor remainder fraction gone fraction_in interpolated count
 last-named = refl
 
--- under another number no place is named, and the height may be 0
-nowhere : figures (outcome_by 0 (Err BadSize) 0 (extremes_of 1 [])) ≡ 1 ∷ 0 ∷ 0 ∷ 0 ∷ 0 ∷ []
+-- under another number no place is named, whatever a refusal holds, and the height may be 0
+nowhere :
+    map (λ refusal. figures (outcome_by 0 (Err refusal) 0 (extremes_of 1 []))) (BadSize ∷ BelowThreshold (record { row = 7; column = 7 }) ∷ [])
+    ≡ (1 ∷ 0 ∷ 0 ∷ 0 ∷ 0 ∷ []) ∷ (15 ∷ 0 ∷ 0 ∷ 0 ∷ 0 ∷ []) ∷ []
 nowhere = refl
 
 -- ---- a block of 2 by 2 by 2, straightened by whole samples

@@ -3,7 +3,7 @@ use Rattle.std.specs.Prelude.{ℕ, ◌*◌, ◌/◌, ◌%◌, ◌<◌, ◌≡◌
 use Rattle.lists.specs.declared.Extremes.{Extremes}
 use Rattle.lists.specs.Ends.{smallest, largest, extremes_of, smallest_in_rows, largest_in_rows}
 use Rattle.refusals.specs.declared.Refusal.{Refusal}
-use Rattle.refusals.specs.declared.Refusal.TheVariants.{BadSample}
+use Rattle.refusals.specs.declared.Refusal.TheVariants.{BadSample, BelowThreshold}
 use Rattle.refusals.specs.Tests.{AllWithin}
 use Rattle.refusals.specs.Judging as verdict
 use Rattle.refusals.specs.Judging.{Verdict, accepted, when_accepted}
@@ -57,9 +57,10 @@ largest_of (Err refused) = pos 0
 abbrev pub only_six : ℕ → ℕ → ℕ
 only_six number figure = cond (eqb number 6) figure 0
 
--- a refusal by depth, row and column: row r of all pictures, one below the other, is row r modulo H at the depth r / H
+-- a refusal by depth, row and column, told under 6 alone: row r of all pictures, one below the other, is row r modulo H at the depth r / H
 abbrev pub refused_at : ℕ → Refusal → BlockRefusal
 refused_at H (BadSample p) = record { refusal = BadSample (record { row = p.row % H; column = p.column }); depth = p.row / H }
+refused_at H (BelowThreshold p) = record { refusal = BelowThreshold (record { row = 0; column = 0 }); depth = 0 }
 refused_at H refusal = record { refusal = refusal; depth = 0 }
 
 -- the outcome of a verdict, with the lines interpolated and the extremes of the result when accepted

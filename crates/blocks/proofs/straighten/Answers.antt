@@ -3,7 +3,7 @@ use Prim.Native.Nat.{ℕ, ◌≤◌, ◌<◌}
 use mathlib.Core.Path.{sym, ap, ◌∙◌}
 use native.Mathlib.Omega.{arith}
 use Rattle.refusals.specs.Judging.{number_of}
-use Rattle.blocks.proofs.Accepted.{accepted_fit, refused_sample, sites}
+use Rattle.blocks.proofs.Accepted.{accepted_fit, refused_sample}
 use Rattle.blocks.proofs.Call.{refused-answer, accepted-answer}
 use Rattle.blocks.proofs.straighten.Goals as goal
 
@@ -26,8 +26,7 @@ returns-in-Err c =
     let a = c.args in
     let told = sym c.judge-verdict.ensures ∙ c.in-Err.is in
     rw c.refused.ensures
-    (refused-answer _ a.width a.height a.depth a.plane a.setting a.block.now a.res.now a.work.now c.in-Err.refusal told
-    (sites a.width a.height a.depth a.plane a.setting a.block.now _ _ c.in-Err.refusal told))
+    (refused-answer _ a.width a.height a.depth a.plane a.setting a.block.now a.res.now a.work.now c.in-Err.refusal told)
 
 pub returns-in-Ok : goal.returns-in-Ok
 returns-in-Ok c =
