@@ -148,7 +148,8 @@ fn judge(
     refusals::scanned(block, sides.width, sides.depth * sides.height, RANGE)
 }
 
-// A refusal by depth, row and column: row `row` of all pictures, one below the other, is one of the picture at the depth row / height.
+// A refusal by depth, row and column: row `row` of all pictures, one below the other, is one of the picture at the depth row / height. No other refusal
+// of a block names a place.
 fn refused(height: usize, refusal: Refusal) -> BlockRefusal
     requires { number refusal ≡ 6 → 1 ≤ height }
     ensures { result ≡ refused_at height refusal }
@@ -160,6 +161,10 @@ fn refused(height: usize, refusal: Refusal) -> BlockRefusal
                 column,
             }),
             depth: row / height,
+        },
+        Refusal::BelowThreshold(_) => BlockRefusal {
+            refusal: Refusal::BelowThreshold(Place { row: 0, column: 0 }),
+            depth: 0,
         },
         _ => BlockRefusal { refusal, depth: 0 },
     }
@@ -218,7 +223,7 @@ fn straighten_together(
     let places = sides.width * sides.height * sides.depth;
     let s = sides.slices(plane);
     let room = room_of(s);
-    res[..places].copy_from_slice(&block[..places]);
+    lists::copy(&block[..places], &mut res[..places]);
     planes::straighten_slices(&mut res[..places], &mut work[..room], s, setting);
     lists::clear(&mut work[..room]);
     lists::extremes_of(&res[..places])

@@ -107,7 +107,7 @@ fn parts_in(kernel: Kernel, d: i32, k: usize, line: &[i32], row: &mut [i32]) -> 
     requires { Explainable (length row.old) d k line.now (6 * length row.old) }
     ensures { result ≡ parts_of kernel (length row.old) d k (weighed_of kernel (length row.old) line.now) }
 {
-    row.copy_from_slice(&line[..row.len()]);
+    lists::copy(&line[..row.len()], row);
     rows::prepare(row, kernel);
     parts_of(kernel, d, k, row)
 }

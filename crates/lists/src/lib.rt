@@ -14,6 +14,16 @@ pub struct Extremes {
     pub largest: i32,
 }
 
+// Every place becomes the sample of its number. The library's `copy_from_slice` calls `memmove`, which the archive for C asks of nobody.
+pub fn copy(samples: &[i32], res: &mut [i32])
+    requires { length samples.now ≡ length res.old }
+    ensures { res.new ≡ samples.now }
+{
+    for (k, place) in res.iter_mut().enumerate() {
+        *place = samples[k];
+    }
+}
+
 // Every place becomes 0.
 pub fn clear(places: &mut [i32])
     ensures { places.new ≡ replicate (length places.old) (pos 0) }

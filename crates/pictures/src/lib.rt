@@ -64,7 +64,7 @@ pub fn straighten_accepted(
 {
     let places = width * height;
     let room = acceptance::room(width, height);
-    res[..places].copy_from_slice(&picture[..places]);
+    lists::copy(&picture[..places], &mut res[..places]);
     let lines = three_passes(
         &mut res[..places],
         &mut work[..room],

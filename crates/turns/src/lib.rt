@@ -57,7 +57,7 @@ fn copy_facing(back: bool, samples: &[i32], res: &mut [i32])
     if back {
         copy_reversed(samples, res);
     } else {
-        res.copy_from_slice(samples);
+        lists::copy(samples, res);
     }
 }
 
@@ -97,7 +97,7 @@ fn load_block(picture: &[i32], view: View, tile: Tile, block: &mut [i32; ROOM])
     for j in 0..tile.columns {
         let from = face(view.below, view.height, tile.x + j) * view.width + first;
         let at = j * ACROSS;
-        block[at..at + rows].copy_from_slice(&picture[from..from + rows]);
+        lists::copy(&picture[from..from + rows], &mut block[at..at + rows]);
     }
 }
 

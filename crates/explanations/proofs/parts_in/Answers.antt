@@ -62,9 +62,9 @@ module _ (s : Start) where
       (prepared_parts κ s.args.d s.args.k own some))
 
 pub parts_of-requires : goal.parts_of-requires
-parts_of-requires c = rw (c.prepare.ensures, c.copy_from_slice.ensures.after, to_z-of_z c.ranges.d) (weighed (goal.at.parts_of-requires c).Start)
+parts_of-requires c = rw (c.prepare.ensures, c.copy.ensures, to_z-of_z c.ranges.d) (weighed (goal.at.parts_of-requires c).Start)
 
 pub returns : goal.returns
 returns c =
-    let e = rw (c.prepare.ensures, c.copy_from_slice.ensures.after, to_z-of_z c.ranges.d) at c.parts_of.ensures in
+    let e = rw (c.prepare.ensures, c.copy.ensures, to_z-of_z c.ranges.d) at c.parts_of.ensures in
     e ∙ ready (goal.at.returns c).Start

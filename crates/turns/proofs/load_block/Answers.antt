@@ -36,8 +36,8 @@ overflow_add-from-in-loop-j c = omega (arith, read (goal.at.overflow_add-from-in
 pub offset_bounds-picture-from : goal.offset_bounds-picture-from
 offset_bounds-picture-from c = omega (arith, read (goal.at.offset_bounds-picture-from c).After-face)
 
-pub slice_bounds-copy_from_slice-end-in-loop-j : goal.slice_bounds-copy_from_slice-end-in-loop-j
-slice_bounds-copy_from_slice-end-in-loop-j c = omega (arith, read (goal.at.slice_bounds-copy_from_slice-end-in-loop-j c).After-face)
+pub slice_bounds-copy-end : goal.slice_bounds-copy-end
+slice_bounds-copy-end c = omega (arith, read (goal.at.slice_bounds-copy-end c).After-face)
 
 pub loop-j-preserved : goal.loop-j-preserved
 loop-j-preserved c =
@@ -48,10 +48,10 @@ loop-j-preserved c =
     let j = c.loop-j.j in
     let from = c.face.result * v.width + c.face-first.result in
     let s = a.picture.now in
-    let e = c.copy_from_slice.ensures.after in
+    let e = c.copy.ensures in
     let room : j * 68 + n ≤ length a.block.now = omega arith in
     rw (← c.face-first.ensures)
-    (patch_row 68 0 n 0 j (j * 68) (loaded v a.tile.x c.face-first.result s) a.block.now c.loop-j.block c.copy_from_slice.new.self
+    (patch_row 68 0 n 0 j (j * 68) (loaded v a.tile.x c.face-first.result s) a.block.now c.loop-j.block c.copy.new.res
     (omega arith) (omega arith) room (faced_length from n s inside false _ e)
     (λ k m. faced_at from n s inside false _ e k m ∙ loaded_at v a.tile.x c.face-first.result j c.face.result k s c.face.ensures)
     (rw (← c.face-first.ensures) at c.loop-j.invariant))
