@@ -14,8 +14,8 @@ goes_on More e = refl
 goes_on Ended e = absurd (true≢false (sym e))
 
 pub loop-before-init : goal.loop-before-init
-loop-before-init c = record { more = refl; count = refl; reached = reached_start c.args.self.now.block c.args.self.now.carry c.args.self.now.answers }
+loop-before-init c = record { more = refl; count = refl; reached = reached_start c.args.self.now.block c.args.self.now.carry c.args.self.now.answers; unfailed = (refl, refl) }
 
 pub loop-before-preserved : goal.loop-before-preserved
 loop-before-preserved c =
-    let on = goes_on _ c.if-eq.ensures in record { more = on; count = refl; reached = reached_more c.loop-before.invariant.reached (c.in_ok-last.ensures.done.more on) }
+    let on = goes_on _ c.if-eq.ensures in record { more = on; count = refl; reached = reached_more c.loop-before.invariant.reached (c.in_ok-last.ensures.done.more on); unfailed = c.in_ok-last.ensures.done.told }

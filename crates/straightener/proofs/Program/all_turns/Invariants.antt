@@ -4,8 +4,9 @@ use mathlib.Core.Path.{◌≡◌}
 use lib.ListN.{take}
 use Rattle.stream.specs.Reached.{Reached}
 use Rattle.straightener.specs.declared.How.TheVariants.{More}
+use Rattle.straightener.specs.Run.{Unfailed}
 use Rattle.straightener.proofs.Program.all_turns.Given as goal
 
 abbrev pub invariant-loop-before : goal.invariant-loop-before
 invariant-loop-before l =
-    record { more : l.last.how ≡ More; count : l.blocks ≡ l.before; reached : Reached (take l.last.read l.self.block) l.self.carry l.self.answers l.self.used l.last.handed }
+    record { more : l.last.how ≡ More; count : l.blocks ≡ l.before; reached : Reached (take l.last.read l.self.block) l.self.carry l.self.answers l.self.used l.last.handed; unfailed : Unfailed l.self }
