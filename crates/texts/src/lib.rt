@@ -52,6 +52,8 @@ fn close(out: &mut [u8], end: usize) -> usize
 }
 
 // Writes a refusal: its number, and the row and the column that it names. An out under its places is refused with 2 and stays as it was.
+// It stands in line, so that the answer to a malformed line, which is always the same, is no more than its stores.
+#[inline(always)]
 pub fn refuse(out: &mut [u8], refusal: Refusal) -> Result<usize, Refusal>
     ensures { Written (refusal_text (number refusal) (place refusal).row (place refusal).column) out.old out.new result }
 {
