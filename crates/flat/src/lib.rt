@@ -250,29 +250,34 @@ pub fn ticket_of(ticket: FlatTicket) -> Ticket
 
 // ---- answers laid out flat: refused, every figure but the number and the place is 0
 
-impl Answer {
-    fn refused(refusal: Refusal) -> Answer
-        ensures { result ≡ record { number = number refusal; row = (place refusal).row; column = (place refusal).column; count = 0; smallest = pos 0; largest = pos 0 } }
-    {
-        let place = refusal.place();
-        Answer {
-            number: refusal.number(),
-            row: place.row,
-            column: place.column,
-            ..Answer::default()
-        }
+pub fn accepted(count: u32, extremes: Extremes) -> Answer
+    ensures { result ≡ record { number = 0; row = 0; column = 0; count = count; smallest = extremes.smallest; largest = extremes.largest } }
+{
+    Answer {
+        count,
+        smallest: extremes.smallest,
+        largest: extremes.largest,
+        ..Answer::default()
     }
+}
 
-    fn accepted(count: u32, extremes: Extremes) -> Answer
-        ensures { result ≡ record { number = 0; row = 0; column = 0; count = count; smallest = extremes.smallest; largest = extremes.largest } }
-    {
-        Answer {
-            count,
-            smallest: extremes.smallest,
-            largest: extremes.largest,
-            ..Answer::default()
-        }
+pub fn refused(number: u32, row: usize, column: usize) -> Answer
+    ensures { result ≡ record { number = number; row = row; column = column; count = 0; smallest = pos 0; largest = pos 0 } }
+{
+    Answer {
+        number,
+        row,
+        column,
+        ..Answer::default()
     }
+}
+
+// The answer of a call that is refused so.
+fn refused_by(refusal: Refusal) -> Answer
+    ensures { result ≡ record { number = number refusal; row = (place refusal).row; column = (place refusal).column; count = 0; smallest = pos 0; largest = pos 0 } }
+{
+    let Place { row, column } = refusal.place();
+    refused(refusal.number(), row, column)
 }
 
 impl From<Result<(), Refusal>> for Answer {
@@ -281,7 +286,7 @@ impl From<Result<(), Refusal>> for Answer {
     fn from(verdict: Result<(), Refusal>) -> Answer {
         match verdict {
             Ok(()) => Answer::default(),
-            Err(refusal) => Answer::refused(refusal),
+            Err(refusal) => refused_by(refusal),
         }
     }
 }
@@ -291,8 +296,8 @@ impl From<Result<Straightened, Refusal>> for Answer {
 
     fn from(outcome: Result<Straightened, Refusal>) -> Answer {
         match outcome {
-            Ok(done) => Answer::accepted(done.lines, done.extremes),
-            Err(refusal) => Answer::refused(refusal),
+            Ok(done) => accepted(done.lines, done.extremes),
+            Err(refusal) => refused_by(refusal),
         }
     }
 }
@@ -302,8 +307,8 @@ impl From<Result<Moved, Refusal>> for Answer {
 
     fn from(outcome: Result<Moved, Refusal>) -> Answer {
         match outcome {
-            Ok(moved) => Answer::accepted(u32::from(moved.interpolated), moved.extremes),
-            Err(refusal) => Answer::refused(refusal),
+            Ok(moved) => accepted(u32::from(moved.interpolated), moved.extremes),
+            Err(refusal) => refused_by(refusal),
         }
     }
 }

@@ -24,7 +24,7 @@ pub enum Moves {
 }
 
 // a·(y - c), the move of line y in a shear.
-fn sheared_by(a: i32, c: usize, y: usize) -> i64
+pub fn sheared_by(a: i32, c: usize, y: usize) -> i64
     requires { (nat_abs a ≤ 4096) × (c ≤ 1024) × (y ≤ 1024) }
     ensures { (result ≡ shear a c y) × (nat_abs result ≤ 4194304) }
 {
